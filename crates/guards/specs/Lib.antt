@@ -1,0 +1,4 @@
+pub mod Algebra
+pub mod Flags
+pub mod Minutes
+pub mod Pair

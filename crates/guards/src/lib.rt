@@ -1,0 +1,6 @@
+// Algebras of guards: sets of entries, each described by a small value.
+pub mod algebra;
+pub mod flags;
+pub mod malformed;
+pub mod minutes;
+pub mod pair;
