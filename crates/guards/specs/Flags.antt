@@ -76,8 +76,12 @@ compatible a b w = not (has (a .care) w && has (b .care) w) || Bool·beq (has (a
 abbrev pub flags-overlap : FlagRow → FlagRow → Bool
 flags-overlap a b = is-pattern a && (is-pattern b && every (compatible a b) weights)
 
+-- the cares and the values of both
+abbrev pub joined : FlagRow → FlagRow → FlagRow
+joined a b = flags (bitOr (a .care) (b .care)) (bitOr (a .value) (b .value))
+
 abbrev pub flags-meet : FlagRow → FlagRow → FlagRow
-flags-meet a b = cond (flags-overlap a b) (flags (bitOr (a .care) (b .care)) (bitOr (a .value) (b .value))) no-flags
+flags-meet a b = cond (flags-overlap a b) (joined a b) no-flags
 
 abbrev pub flags-sample : FlagRow → Option ℕ
 flags-sample g = cond (is-pattern g) (Some (g .value)) None

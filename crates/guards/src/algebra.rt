@@ -1,4 +1,5 @@
 // The algebra of guards: which entries each guard admits, and five functions that keep to it.
+ghost use mathlib.Core.List.{[], _∷_};
 ghost use mathlib.Core.Path.{_≡_};
 ghost use Rattle.guards.specs.Algebra.{Model, Laws};
 ghost use Rattle.std.specs.shelf.Maps.{nth};
@@ -34,4 +35,11 @@ pub trait Algebra {
     // The part of that number, from 0, of `a` without `b`; None past the last.
     fn rest(&self, a: Self::Guard, b: Self::Guard, part: usize) -> Option<Self::Guard>
         ensures { λ r. ⌜ r ≡ nth (model (now (self .entry)) .parts a b) part ⌝ };
+}
+
+// The part of that number where the rest is one guard.
+pub(crate) fn only<G: Copy>(guard: G, part: usize) -> Option<G>
+    ensures { λ r. ⌜ r ≡ nth (guard ∷ []) part ⌝ }
+{
+    if part == 0 { Some(guard) } else { None }
 }

@@ -1,6 +1,9 @@
 // The algebra of flags: its functions read each row as a guard.
+ghost use lib.Bits.{bitAnd};
+ghost use lib.Dec.{leb, eqb};
+ghost use mathlib.Core.Bool.{_&&_};
 ghost use mathlib.Core.Path.{_≡_};
-ghost use Rattle.guards.specs.Flags.{flags-model, flags-admit, flags-meet, flag-row, pattern-row, has, fresh, fixed, split, weights};
+ghost use Rattle.guards.specs.Flags.{flags-model, pattern-row, has, joined, fresh, fixed, split, weights};
 ghost use Rattle.std.specs.shelf.Maps.{nth};
 use super::FlagGuard;
 use super::FlagPattern;
@@ -10,6 +13,7 @@ use super::LAST_FLAGS;
 use super::NO_FLAGS;
 use super::WEIGHTS;
 use crate::algebra::Algebra;
+use crate::algebra::only;
 
 // Whether the number has the bit of that weight.
 fn has_bit(number: u8, weight: u8) -> bool
@@ -29,24 +33,28 @@ fn fix(row: FlagRow, weight: u8, on: bool) -> FlagRow
 }
 
 impl FlagPattern {
-    fn admits(self, flags: u8) -> bool
-        ensures { λ r. ⌜ r ≡ flags-admit (pattern-row self) flags ⌝ }
+    // Whether the entry agrees with the value on every care bit.
+    fn matches(self, flags: u8) -> bool
+        ensures { λ r. ⌜ r ≡ (leb flags 31 && eqb (bitAnd flags (self .care)) (self .value)) ⌝ }
     {
         flags <= LAST_FLAGS && flags & self.care == self.value
     }
 
-    // The flags of both.
-    fn meet(self, other: FlagPattern) -> FlagGuard
-        ensures { λ r. ⌜ flag-row r ≡ flags-meet (pattern-row self) (pattern-row other) ⌝ }
+    // Whether the two values are the same on the shared care bits.
+    fn is_compatible(self, other: FlagPattern) -> bool
+        ensures { λ r. ⌜ r ≡ eqb (bitAnd (self .value) (bitAnd (self .care) (other .care))) (bitAnd (other .value) (bitAnd (self .care) (other .care))) ⌝ }
     {
         let shared = self.care & other.care;
-        if self.value & shared == other.value & shared {
-            FlagGuard::Pattern(FlagPattern {
-                care: self.care | other.care,
-                value: self.value | other.value,
-            })
-        } else {
-            FlagGuard::Empty
+        self.value & shared == other.value & shared
+    }
+
+    // The row with the cares and the values of both.
+    fn join(self, other: FlagPattern) -> FlagRow
+        ensures { λ r. ⌜ r ≡ joined (pattern-row self) (pattern-row other) ⌝ }
+    {
+        FlagRow {
+            care: self.care | other.care,
+            value: self.value | other.value,
         }
     }
 
@@ -91,7 +99,7 @@ pub impl Algebra for Flags as FlagsAlgebra {
     fn admits(&self, guard: FlagRow, of: u8) -> bool {
         match FlagGuard::read(guard) {
             FlagGuard::Empty => false,
-            FlagGuard::Pattern(pattern) => pattern.admits(of),
+            FlagGuard::Pattern(pattern) => pattern.matches(of),
         }
     }
 
@@ -102,7 +110,11 @@ pub impl Algebra for Flags as FlagsAlgebra {
         let FlagGuard::Pattern(y) = FlagGuard::read(b) else {
             return NO_FLAGS;
         };
-        x.meet(y).row()
+        if x.is_compatible(y) {
+            x.join(y)
+        } else {
+            NO_FLAGS
+        }
     }
 
     fn sample(&self, guard: FlagRow) -> Option<u8> {
@@ -116,13 +128,13 @@ pub impl Algebra for Flags as FlagsAlgebra {
         let FlagGuard::Pattern(x) = FlagGuard::read(a) else {
             return None;
         };
-        let alone = if part == 0 { Some(a) } else { None };
         let FlagGuard::Pattern(y) = FlagGuard::read(b) else {
-            return alone;
+            return only(a, part);
         };
-        match x.meet(y) {
-            FlagGuard::Empty => alone,
-            FlagGuard::Pattern(_) => x.part(y, part),
+        if x.is_compatible(y) {
+            x.part(y, part)
+        } else {
+            only(a, part)
         }
     }
 }

@@ -1,6 +1,8 @@
 // Flags that can hold no other numbers: entries and guards, made from plain numbers after a check.
+ghost use lib.Bits.{bitAnd};
+ghost use lib.Dec.{leb, eqb};
 ghost use mathlib.Core.Path.{_≡_};
-ghost use mathlib.Core.Bool.{true, false};
+ghost use mathlib.Core.Bool.{true, false, _&&_};
 ghost use Rattle.guards.specs.Flags.{is-flags, is-pattern, flag-row, pattern-row, Reads};
 ghost use Rattle.guards.specs.declared.malformed.Malformed.the-variants.{Flags};
 ghost use Rattle.std.specs.Results.{Cases};
@@ -11,6 +13,13 @@ use super::FlagRow;
 use super::LAST_FLAGS;
 use super::NO_FLAGS;
 use crate::malformed::Malformed;
+
+// Whether care has five bits, and the value no bit outside care.
+fn makes_pattern(care: u8, value: u8) -> bool
+    ensures { λ r. ⌜ r ≡ (leb care 31 && eqb (bitAnd value care) value) ⌝ }
+{
+    care <= LAST_FLAGS && value & care == value
+}
 
 impl FlagEntry {
     // The entry of that number.
@@ -48,7 +57,7 @@ impl FlagGuard {
         ensures { λ r. ⌜ Reads row r ⌝ }
     {
         let FlagRow { care, value } = row;
-        if care <= LAST_FLAGS && value & care == value {
+        if makes_pattern(care, value) {
             FlagGuard::Pattern(FlagPattern { care, value })
         } else {
             FlagGuard::Empty

@@ -10,6 +10,7 @@ use super::MinuteRow;
 use super::Minutes;
 use super::NO_MINUTES;
 use crate::algebra::Algebra;
+use crate::algebra::only;
 
 impl MinuteRange {
     fn admits(self, minute: u16) -> bool
@@ -103,7 +104,7 @@ pub impl Algebra for Minutes as MinutesAlgebra {
             return None;
         };
         let MinuteGuard::Range(y) = MinuteGuard::read(b) else {
-            return if part == 0 { Some(a) } else { None };
+            return only(a, part);
         };
         let low = x.below(y);
         match (low, part) {
