@@ -108,7 +108,8 @@ pub impl<L: Algebra, R: Algebra> Algebra for Pair<L, R> as PairAlgebra {
         if early.is_some() {
             return early;
         }
-        if !is_live(&self.first, self.first.meet(a.first, b.first)) {
+        let met = self.first.meet(a.first, b.first);
+        if !is_live(&self.first, met) {
             return None;
         }
         let before = count_parts(&self.first, a.first, b.first, part);
