@@ -1,14 +1,14 @@
 -- What decoding means: bytes give an order just where they are the bytes of that order.
-use mathlib.Core.Path.{_≡_, refl, sym, ap, subst, _∙_}
+use mathlib.Core.Path.{_≡_, refl, sym, ap, _∙_}
 use mathlib.Core.Bool.{Bool, true, false, cond}
 use mathlib.Core.List.{List, [], _∷_}
 use mathlib.Core.Logic.{_⊎_, inl, inr}
-use Prim.Native.Nat.{ℕ, suc, _+_, _*_, _-_, _/_, _%_, _<_, _≤_}
+use Prim.Native.Nat.{ℕ, suc, _+_, _*_, _-_, _<_}
 use native.Mathlib.Omega.{arith}
-use borrow.Author.Tests.{eqb-true, clash}
+use borrow.Author.Tests.{eqb-true}
 use lib.Arith.{digits-div, digits-mod}
 use lib.Dec.{eqb, lit<}
-use lib.ListN.{length, length-drop, getD, drop, replicate}
+use lib.ListN.{length, length-drop, drop, replicate}
 use lib.Seq.{drop-cons}
 use Rattle.std.specs.Options.{okOr}
 use Rattle.std.specs.declared.option.Option.{Option}
@@ -16,6 +16,8 @@ use Rattle.std.specs.declared.option.Option.the-variants.{Some, None}
 use Rattle.std.specs.declared.result.Result.the-variants.{Ok, Err}
 use Rattle.std.proofs.shelf.Lists.{drop-all}
 use Rattle.guards.specs.Minutes.{minutes}
+use Rattle.guards.specs.declared.flags.FlagRow.{FlagRow}
+use Rattle.guards.specs.declared.minutes.MinuteRow.{MinuteRow}
 use Rattle.guards.specs.declared.pair.Both.{Both}
 use Rattle.machines.specs.declared.joins.JoinWord.the-variants.{Both as ByBoth, Either, Except}
 use Rattle.machines.specs.declared.moves.Move.{Move}
@@ -74,7 +76,7 @@ spread bs n =
     let e10 : drop 10 bs ≡ [] = drop-all 10 bs (omega arith) in
     cc
 
--- the letter M
+-- where the letter is M, the bytes are those of the order; low bytes are below 256
 write-sound : (bs : List ℕ) (o : Order) → length bs ≡ 10 → ((i : ℕ) → byte-at bs i < 256) → byte-at bs 0 ≡ 77 → write-asked bs ≡ Some o → bs ≡ bytes-of o
 write-sound bs o n small l e =
     let u = under (eqb (byte-at bs 5) 0) (Some (Write (move-of bs))) o e in
@@ -88,7 +90,7 @@ write-sound bs o n small l e =
     let written : bs ≡ bytes-of (Write (move-of bs)) = cc in
     written ∙ ap bytes-of same
 
--- the letter E
+-- where the letter is E
 mark-sound : (bs : List ℕ) (o : Order) → length bs ≡ 10 → byte-at bs 0 ≡ 69 → mark-asked bs ≡ Some o → bs ≡ bytes-of o
 mark-sound bs o n l e =
     let u = under (blank (drop 2 bs)) (Some (Mark (byte-at bs 1))) o e in
@@ -97,7 +99,7 @@ mark-sound bs o n l e =
     ∙ ap (λ t. byte-at bs 0 ∷ byte-at bs 1 ∷ t) (zeros-from bs 2 n (u .0))
     ∙ ap (λ k. short k (byte-at bs 1)) l ∙ ap bytes-of same
 
--- the letters that use no other byte
+-- where the letter uses no other byte
 plain-sound : (bs : List ℕ) (o : Order) → length bs ≡ 10 → plain-asked bs ≡ Some o → bs ≡ bytes-of o
 plain-sound bs o n e =
     let u = under (blank (drop 1 bs)) (lettered (byte-at bs 0) plain-orders) o e in
@@ -122,6 +124,10 @@ sound bs o small e =
 rejoined : (n : ℕ) → high-byte n * 256 + low-byte n ≡ n
 rejoined n = omega arith
 
+-- a write with other minutes
+abbrev with-minutes : Move (Both FlagRow MinuteRow) → ℕ → ℕ → Order
+with-minutes m a b = Write (record { from = m .from; guard = record { first = m .guard .first; second = minutes a b }; to = m .to })
+
 -- an order's bytes ask for it
 decoded-bytes : (o : Order) → decoded (bytes-of o) ≡ Ok o
 unfolding blank
@@ -129,11 +135,9 @@ decoded-bytes Open = refl
 decoded-bytes Add = refl
 decoded-bytes (Mark s) = refl
 decoded-bytes (Write m) =
-    let g = m .guard in
-    let with-minutes : ℕ → ℕ → Answer =
-    λ a b. Ok (Write (record { from = m .from; guard = record { first = g .first; second = minutes a b }; to = m .to })) in
-    ap (λ a. with-minutes a (high-byte (g .second .last) * 256 + low-byte (g .second .last))) (rejoined (g .second .first))
-    ∙ ap (λ b. with-minutes (g .second .first) b) (rejoined (g .second .last))
+    let row = m .guard .second in
+    ap (λ n. Ok (with-minutes m n (high-byte (row .last) * 256 + low-byte (row .last)))) (rejoined (row .first))
+    ∙ ap (λ n. Ok (with-minutes m (row .first) n)) (rejoined (row .last))
 decoded-bytes Check = refl
 decoded-bytes (Join ByBoth) = refl
 decoded-bytes (Join Either) = refl
@@ -141,18 +145,22 @@ decoded-bytes (Join Except) = refl
 decoded-bytes Turn = refl
 decoded-bytes Discard = refl
 
+-- an answer that is an order was found
 found : (a : Option Order) (o : Order) → _≡_ {A = Answer} (okOr a OutOfPlace) (Ok o) → a ≡ Some o
 found None o e = let z : _≡_ {A = ℕ} 0 1 = cc in absurd (omega arith)
 found (Some x) o e = cc
 
+-- an answer that is a refusal says out of place
 only-out : (a : Option Order) (why : Refusal (Both ℕ ℕ)) → _≡_ {A = Answer} (okOr a OutOfPlace) (Err why) → why ≡ OutOfPlace
 only-out None why e = cc
 only-out (Some x) why e = let z : _≡_ {A = ℕ} 0 1 = cc in absurd (omega arith)
 
+-- an order's bytes are never refused, since they ask for it
 means : (bs : List ℕ) → ((i : ℕ) → byte-at bs i < 256) → (r : Answer) → decoded bs ≡ r → Meaning bs r
 means bs small (Ok o) e = sound bs o small (found (asked bs) o e)
 means bs small (Err why) e =
     (only-out (asked bs) why e, λ o h. let k = ap decoded h ∙ decoded-bytes o in let z : _≡_ {A = ℕ} 0 1 = cc in absurd (omega arith))
 
+-- what decoding gives means what it should
 pub decoded-means : (bs : List ℕ) → ((i : ℕ) → byte-at bs i < 256) → Meaning bs (decoded bs)
 decoded-means bs small = means bs small (decoded bs) refl

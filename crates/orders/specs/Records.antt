@@ -45,7 +45,7 @@ letter-of Discard = 75
 abbrev pub short : ℕ → ℕ → List ℕ
 short l b = l ∷ b ∷ 0 ∷ 0 ∷ 0 ∷ 0 ∷ 0 ∷ 0 ∷ 0 ∷ 0 ∷ []
 
--- high byte first
+-- a number of two bytes, high byte first
 abbrev pub high-byte : ℕ → ℕ
 high-byte n = n / 256
 

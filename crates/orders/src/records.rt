@@ -1,4 +1,4 @@
-// Order records: ten bytes that ask for one order.
+// Order records: ten bytes that ask for one order. Bytes that a letter does not use are zero, so an order has one record.
 ghost use mathlib.Core.Path.{_≡_};
 ghost use Prim.Native.Nat.{_+_, _*_, _≤_};
 ghost use lib.ListN.{drop, length};
@@ -52,7 +52,7 @@ fn joined(high: u8, low: u8) -> u16
     u16::from(high) * 256 + u16::from(low)
 }
 
-// The order of a letter that uses no other byte.
+// The order of a letter that says it all: no other byte is used.
 fn lettered_order(letter: u8) -> Option<Order>
     ensures { λ r. ⌜ r ≡ lettered letter plain-orders ⌝ }
 {
@@ -147,7 +147,7 @@ pub fn decode(bytes: &[u8]) -> Result<Order, Refusal<ActivityEntry>>
     asked_order(bytes).ok_or(Refusal::OutOfPlace)
 }
 
-// Which numbers of a guard are at fault, if any are.
+// Which numbers of a guard are at fault, if any are: the flags come first.
 fn fault_of(guard: ActivityGuard) -> Option<Malformed>
     ensures { λ r. ⌜ r ≡ fault guard ⌝ }
 {
