@@ -1,0 +1,4 @@
+// Machines whose moves carry guards: what they are made of, and why a call on one is refused.
+pub mod joins;
+pub mod moves;
+pub mod refusals;

@@ -1,0 +1,3 @@
+-- The lemmas that the proofs share.
+pub mod Blanks
+pub mod Decoding
