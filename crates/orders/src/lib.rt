@@ -1,5 +1,3 @@
 // Orders on a rule sheet, and the ten-byte records that ask for them.
-pub mod orders;
+pub mod order;
 pub mod records;
-#[cfg(test)]
-mod tests;

@@ -3,16 +3,16 @@ ghost use mathlib.Core.Path.{_≡_};
 ghost use Prim.Native.Nat.{_+_, _*_, _≤_};
 ghost use lib.ListN.{drop, length};
 ghost use Rattle.orders.specs.Records.{asked, blank, decoded, fault, lettered, mark-asked, move-of, numbers-checked, plain-asked, plain-orders, then-checked, write-asked, Meaning};
-use crate::orders::ActivityEntry;
-use crate::orders::ActivityGuard;
-use crate::orders::Order;
+use crate::order::Order;
+use guards::activity::ActivityEntry;
+use guards::activity::ActivityGuard;
 use guards::flags::FlagGuard;
 use guards::flags::FlagRow;
 use guards::malformed::Malformed;
 use guards::minutes::MinuteGuard;
 use guards::minutes::MinuteRow;
 use guards::pair::Both;
-use machines::joins::JoinWord;
+use machines::joins::JoinBy;
 use machines::moves::Move;
 use machines::refusals::Refusal;
 
@@ -60,9 +60,9 @@ fn lettered_order(letter: u8) -> Option<Order>
         b'O' => Some(Order::Open),
         b'S' => Some(Order::Add),
         b'C' => Some(Order::Check),
-        b'B' => Some(Order::Join(JoinWord::Both)),
-        b'I' => Some(Order::Join(JoinWord::Either)),
-        b'X' => Some(Order::Join(JoinWord::Except)),
+        b'B' => Some(Order::Join(JoinBy::Both)),
+        b'I' => Some(Order::Join(JoinBy::Either)),
+        b'X' => Some(Order::Join(JoinBy::Except)),
         b'T' => Some(Order::Turn),
         b'K' => Some(Order::Discard),
         _ => None,

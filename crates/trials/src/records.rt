@@ -1,21 +1,21 @@
 // Order records on examples; each test is a table of cases.
-use crate::orders::Order;
-use crate::orders::OrderDebug;
-use crate::orders::OrderPartialEq;
-use crate::records::RECORD_BYTES;
-use crate::records::decode;
-use crate::records::read;
 use guards::flags::FlagRow;
 use guards::malformed::Malformed;
 use guards::minutes::MinuteRow;
 use guards::pair::Both;
 use guards::pair::BothDebug;
 use guards::pair::BothPartialEq;
-use machines::joins::JoinWord;
+use machines::joins::JoinBy;
 use machines::moves::Move;
 use machines::refusals::Refusal;
 use machines::refusals::RefusalDebug;
 use machines::refusals::RefusalPartialEq;
+use orders::order::Order;
+use orders::order::OrderDebug;
+use orders::order::OrderPartialEq;
+use orders::records::RECORD_BYTES;
+use orders::records::decode;
+use orders::records::read;
 use std::test::*;
 
 // A record with the letter and zeros.
@@ -49,9 +49,9 @@ fn known_letters() -> Result<(), Fail> {
         (b'S', Order::Add),
         (b'E', Order::Mark(0)),
         (b'C', Order::Check),
-        (b'B', Order::Join(JoinWord::Both)),
-        (b'I', Order::Join(JoinWord::Either)),
-        (b'X', Order::Join(JoinWord::Except)),
+        (b'B', Order::Join(JoinBy::Both)),
+        (b'I', Order::Join(JoinBy::Either)),
+        (b'X', Order::Join(JoinBy::Except)),
         (b'T', Order::Turn),
         (b'K', Order::Discard),
     ];

@@ -1,25 +1,17 @@
 // Orders: what one record asks for.
-use guards::flags::FlagRow;
+use guards::activity::ActivityGuard;
 use guards::flags::FlagRowDebug;
 use guards::flags::FlagRowPartialEq;
-use guards::minutes::MinuteRow;
 use guards::minutes::MinuteRowDebug;
 use guards::minutes::MinuteRowPartialEq;
-use guards::pair::Both;
 use guards::pair::BothDebug;
 use guards::pair::BothPartialEq;
-use machines::joins::JoinWord;
-use machines::joins::JoinWordDebug;
-use machines::joins::JoinWordPartialEq;
+use machines::joins::JoinBy;
+use machines::joins::JoinByDebug;
+use machines::joins::JoinByPartialEq;
 use machines::moves::Move;
 use machines::moves::MoveDebug;
 use machines::moves::MovePartialEq;
-
-// A guard on activities: one on the flags beside one on the minutes.
-pub type ActivityGuard = Both<FlagRow, MinuteRow>;
-
-// An entry of a day of activities: its flags and its minute.
-pub type ActivityEntry = Both<u8, u16>;
 
 // An order on a rule sheet; a record of ten bytes asks for one.
 #[derive(Clone, Copy, PartialEq, Eq, Debug)]
@@ -35,7 +27,7 @@ pub enum Order {
     // Checks the open clause.
     Check,
     // Joins the checked clause to the rule.
-    Join(JoinWord),
+    Join(JoinBy),
     // Turns the rule: its endings and its other states change places.
     Turn,
     // Discards the clause, open or checked.

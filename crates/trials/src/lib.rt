@@ -1,0 +1,9 @@
+// Examples that are run: tables of questions to the libraries, with their answers.
+#[cfg(test)]
+mod flags;
+#[cfg(test)]
+mod minutes;
+#[cfg(test)]
+mod pairs;
+#[cfg(test)]
+mod records;
