@@ -10,7 +10,8 @@ use Rattle.std.specs.shelf.Lists.{All}
 use Rattle.std.proofs.shelf.Bits.{pow-add, pow-pos}
 use Rattle.std.proofs.shelf.Tests.{and-parts, eq-eqb, ne-eqb, eqb-true, both-ways}
 use Rattle.std.proofs.shelf.Ways.{tells}
-use Rattle.guards.specs.Flags.{weights, has, every}
+use Rattle.guards.specs.Flags.{weights, has}
+use Rattle.guards.specs.Lists.{every}
 
 -- ---- tests over a list
 

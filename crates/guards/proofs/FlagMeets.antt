@@ -5,7 +5,8 @@ use Prim.Native.Nat.{ℕ, _^_, _≤_, _<_}
 use native.Mathlib.Omega.{arith}
 use lib.Bits.{bitOr, or-lt}
 use Rattle.std.proofs.shelf.Tests.{and-from, le-leb, both-ways}
-use Rattle.guards.specs.Flags.{no-flags, weights, has, every, is-flags, is-pattern, agrees, flags-admit, compatible, joined, flags-meet}
+use Rattle.guards.specs.Flags.{no-flags, weights, has, is-flags, is-pattern, agrees, flags-admit, compatible, joined, flags-meet}
+use Rattle.guards.specs.Lists.{every}
 use Rattle.guards.specs.declared.flags.FlagRow.{FlagRow}
 use Rattle.guards.proofs.FlagBits.{every-same, all-every, every-and, at-weights, has-or}
 use Rattle.guards.proofs.FlagTests.{Made, made, make}

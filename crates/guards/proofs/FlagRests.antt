@@ -7,7 +7,8 @@ use native.Mathlib.Omega.{arith}
 use lib.Bits.{bitOr}
 use Rattle.std.specs.shelf.Lists.{All, countBy}
 use Rattle.std.proofs.shelf.Tests.{and-parts, both-ways}
-use Rattle.guards.specs.Flags.{weights, has, every, is-flags, is-pattern, agrees, flags-admit, compatible, fresh, fixed, split}
+use Rattle.guards.specs.Flags.{weights, has, is-flags, is-pattern, agrees, flags-admit, compatible, fresh, fixed, split}
+use Rattle.guards.specs.Lists.{every}
 use Rattle.guards.specs.declared.flags.FlagRow.{FlagRow}
 use Rattle.guards.proofs.Counting.{count-cons, Each, each-none, each-cons}
 use Rattle.guards.proofs.FlagBits.{every-same, every-and, at-weights, has-or}

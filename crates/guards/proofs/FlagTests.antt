@@ -6,7 +6,8 @@ use native.Mathlib.Omega.{arith}
 use lib.Bits.{bitAnd, and-le-l, and-le-r}
 use lib.Dec.{leb, eqb}
 use Rattle.std.proofs.shelf.Tests.{and-parts, and-from, eqb-true, le-leb, leb-true, leb-false, lt-leb, both-ways}
-use Rattle.guards.specs.Flags.{flags, weights, has, every, within, is-pattern, agrees, flags-admit, compatible, flags-overlap}
+use Rattle.guards.specs.Flags.{flags, weights, has, within, is-pattern, agrees, flags-admit, compatible, flags-overlap}
+use Rattle.guards.specs.Lists.{every}
 use Rattle.guards.specs.declared.flags.FlagRow.{FlagRow}
 use Rattle.guards.proofs.FlagBits.{every-same, all-every, at-weights, has-and, same-bit, eqb-bits}
 

@@ -8,6 +8,7 @@ use lib.Dec.{leb, eqb}
 use Rattle.std.specs.declared.option.Option.{Option}
 use Rattle.std.specs.declared.option.Option.the-variants.{Some, None}
 use Rattle.guards.specs.Algebra.{Model}
+use Rattle.guards.specs.Lists.{every}
 use Rattle.guards.specs.declared.flags.FlagRow.{FlagRow}
 use Rattle.guards.specs.declared.flags.FlagPattern.{FlagPattern}
 use Rattle.guards.specs.declared.flags.FlagGuard.{FlagGuard}
@@ -27,11 +28,6 @@ weights = 16 ∷ 8 ∷ 4 ∷ 2 ∷ 1 ∷ []
 -- the number has the bit of that weight
 abbrev pub has : ℕ → ℕ → Bool
 has n weight = not (eqb (bitAnd n weight) 0)
-
--- each of the list passes the test
-abbrev pub every : (ℕ → Bool) → List ℕ → Bool
-every test [] = true
-every test (x ∷ xs) = test x && every test xs
 
 abbrev pub is-flags : ℕ → Bool
 is-flags e = leb e 31

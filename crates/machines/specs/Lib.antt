@@ -1,2 +1,5 @@
--- The definitions that the contracts cite.
+pub mod Automaton
+pub mod Limits
+pub mod Machine
 pub mod Refusals
+pub mod Search
