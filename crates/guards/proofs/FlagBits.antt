@@ -1,19 +1,17 @@
--- Numbers of five bits by their bits: what `&` and `|` do to each, and that the bits tell the numbers apart.
+-- Tests over the five bits of a number, and that the five bits tell numbers apart.
 use mathlib.Core.Path.{_≡_, refl, sym, ap, ap₂, _∙_}
-use mathlib.Core.Bool.{Bool, true, false, not, _&&_, _||_, Bool·beq}
+use mathlib.Core.Bool.{Bool, true, false, _&&_, Bool·beq}
 use mathlib.Core.List.{List, [], _∷_}
-use Prim.Native.Nat.{ℕ, zero, suc, _+_, _-_, _*_, _/_, _%_, _^_, _≤_, _<_, min, max}
+use Prim.Native.Nat.{ℕ, _-_, _/_, _%_, _^_, _≤_, _<_}
 use native.Mathlib.Omega.{arith}
-use lib.Bits.{bitAnd, bitOr, and-high, and-shr, or-shr, and-step, or-step}
 use lib.Dec.{eqb}
 use Rattle.std.specs.shelf.Lists.{All}
-use Rattle.std.proofs.shelf.Bits.{pow-add, pow-pos}
-use Rattle.std.proofs.shelf.Tests.{and-parts, eq-eqb, ne-eqb, eqb-true, both-ways}
+use Rattle.std.proofs.shelf.Tests.{and-parts, eq-eqb, ne-eqb, both-ways}
 use Rattle.std.proofs.shelf.Ways.{tells}
-use Rattle.guards.specs.Flags.{weights, has}
+use Rattle.guards.specs.Bits.{has}
+use Rattle.guards.specs.Flags.{weights}
 use Rattle.guards.specs.Lists.{every}
-
--- ---- tests over a list
+use Rattle.guards.proofs.Bits.{digit, digit-low, has-digit}
 
 pub every-same : (p q : ℕ → Bool) (ws : List ℕ) → All (λ w. p w ≡ q w) ws → every p ws ≡ every q ws
 every-same p q [] h = refl
@@ -40,50 +38,6 @@ every-and p q (w ∷ ws) = ap (λ t. (p w && q w) && t) (every-and p q ws) ∙ s
 -- what holds of two powers of two for each of the five weights
 pub at-weights : (P : ℕ → Type 0) → ((k : ℕ) → P (2 ^ k)) → All P weights
 at-weights P h = (h 4, (h 3, (h 2, (h 1, (h 0, tt)))))
-
--- ---- one bit
-
--- the binary digit of n at 2 ^ k
-digit : ℕ → ℕ → ℕ
-digit k n = n / 2 ^ k % 2
-
-digit-low : (k n : ℕ) → digit k n < 2
-unfolding digit
-digit-low k n = omega arith
-
-and-weight : (k n : ℕ) → bitAnd n (2 ^ k) ≡ digit k n * 2 ^ k
-unfolding digit
-and-weight k n = ap (bitAnd n) (omega (arith, pow-add 2 1 k)) ∙ and-high n 1 k
-
-has-digit : (k n : ℕ) → has n (2 ^ k) ≡ eqb (digit k n) 1
-has-digit k n = go (digit k n) (bitAnd n (2 ^ k)) (2 ^ k) (digit-low k n) (pow-pos k) (and-weight k n)
-  where
-    go : (d x w : ℕ) → d < 2 → 0 < w → x ≡ d * w → not (eqb x 0) ≡ eqb d 1
-    go zero x w h p e = let z : x ≡ 0 = omega arith in grind (arith, tells)
-    go (suc zero) x w h p e = let z : x ≡ w = omega arith in grind (arith, tells)
-    go (suc (suc d)) x w h p e = absurd (omega arith)
-
-pub has-and : (k a b : ℕ) → has (bitAnd a b) (2 ^ k) ≡ (has a (2 ^ k) && has b (2 ^ k))
-unfolding digit
-has-and k a b =
-    has-digit k (bitAnd a b)
-    ∙ go (digit k a) (digit k b) (digit k (bitAnd a b)) (digit-low k a) (digit-low k b)
-    (ap (λ x. x % 2) (and-shr a b k) ∙ omega (arith, and-step (a / 2 ^ k) (b / 2 ^ k)))
-    ∙ sym (ap₂ _&&_ (has-digit k a) (has-digit k b))
-  where
-    go : (x y z : ℕ) → x < 2 → y < 2 → z ≡ min x y → eqb z 1 ≡ (eqb x 1 && eqb y 1)
-    go x y z h k e = grind (arith, tells)
-
-pub has-or : (k a b : ℕ) → has (bitOr a b) (2 ^ k) ≡ (has a (2 ^ k) || has b (2 ^ k))
-unfolding digit
-has-or k a b =
-    has-digit k (bitOr a b)
-    ∙ go (digit k a) (digit k b) (digit k (bitOr a b)) (digit-low k a) (digit-low k b)
-    (ap (λ x. x % 2) (or-shr a b k) ∙ omega (arith, or-step (a / 2 ^ k) (b / 2 ^ k)))
-    ∙ sym (ap₂ _||_ (has-digit k a) (has-digit k b))
-  where
-    go : (x y z : ℕ) → x < 2 → y < 2 → z ≡ max x y → eqb z 1 ≡ (eqb x 1 || eqb y 1)
-    go x y z h k e = grind (arith, tells)
 
 -- ---- all five
 

@@ -8,7 +8,7 @@ use Rattle.std.specs.declared.option.Option.the-variants.{Some, None}
 use Rattle.std.specs.shelf.Lists.{countBy}
 use Rattle.std.proofs.shelf.Tests.{and-parts, both-ways}
 use Rattle.guards.specs.Algebra.{Laws}
-use Rattle.guards.specs.Flags.{no-flags, weights, is-flags, is-pattern, agrees, flags-admit, whole-flags, compatible, flags-overlap, joined, flags-sample, split, flags-parts, flags-model}
+use Rattle.guards.specs.Flags.{no-flags, weights, is-flags, is-pattern, agrees, flags-admit, compatible, flags-overlap, joined, flags-sample, split, flags-parts, flags-model}
 use Rattle.guards.specs.Lists.{every}
 use Rattle.guards.specs.declared.flags.FlagRow.{FlagRow}
 use Rattle.guards.proofs.Counting.{count-if, Each, each-none, each-cons}

@@ -1,15 +1,17 @@
 -- What a guard on flags admits, and what the meet of two admits.
 use mathlib.Core.Path.{_≡_, refl, sym, ap, ap₂, _∙_}
 use mathlib.Core.Bool.{Bool, true, false, not, _&&_, _||_, Bool·beq, cond, and-false}
-use Prim.Native.Nat.{ℕ, _^_, _≤_, _<_}
+use Prim.Native.Nat.{ℕ, _^_, _≤_}
 use native.Mathlib.Omega.{arith}
 use lib.Bits.{bitOr, or-lt}
 use Rattle.std.proofs.shelf.Tests.{and-from, le-leb, both-ways}
-use Rattle.guards.specs.Flags.{no-flags, weights, has, is-flags, is-pattern, agrees, flags-admit, compatible, joined, flags-meet}
+use Rattle.guards.specs.Bits.{has}
+use Rattle.guards.specs.Flags.{no-flags, weights, is-flags, is-pattern, agrees, flags-admit, compatible, joined, flags-meet}
 use Rattle.guards.specs.Lists.{every}
 use Rattle.guards.specs.declared.flags.FlagRow.{FlagRow}
-use Rattle.guards.proofs.FlagBits.{every-same, all-every, every-and, at-weights, has-or}
-use Rattle.guards.proofs.FlagTests.{Made, made, make}
+use Rattle.guards.proofs.Bits.{has-or}
+use Rattle.guards.proofs.FlagBits.{every-same, all-every, every-and, at-weights}
+use Rattle.guards.proofs.FlagTests.{made, make}
 
 -- what a row admits if its numbers make a guard
 abbrev pub matches : FlagRow → ℕ → Bool

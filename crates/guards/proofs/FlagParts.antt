@@ -9,7 +9,8 @@ use Rattle.std.specs.declared.option.Option.{Option}
 use Rattle.std.specs.declared.option.Option.the-variants.{Some, None}
 use Rattle.std.specs.shelf.Maps.{nth}
 use Rattle.std.proofs.shelf.Lists.{at-drop-more, at-drop-all}
-use Rattle.guards.specs.Flags.{has, fresh, fixed, split}
+use Rattle.guards.specs.Bits.{has}
+use Rattle.guards.specs.Flags.{fresh, fixed, split}
 use Rattle.guards.specs.declared.flags.FlagRow.{FlagRow}
 
 later : {X : Type 0} (x : X) (xs : List X) (n : ℕ) → (n ≡ 0 → ⊥) → nth (x ∷ xs) n ≡ nth xs (n - 1)

@@ -6,14 +6,16 @@ use Prim.Native.Nat.{ℕ, _+_, _^_, _≤_}
 use native.Mathlib.Omega.{arith}
 use lib.Bits.{bitOr}
 use Rattle.std.specs.shelf.Lists.{All, countBy}
-use Rattle.std.proofs.shelf.Tests.{and-parts, both-ways}
-use Rattle.guards.specs.Flags.{weights, has, is-flags, is-pattern, agrees, flags-admit, compatible, fresh, fixed, split}
+use Rattle.std.proofs.shelf.Tests.{both-ways}
+use Rattle.guards.specs.Bits.{has}
+use Rattle.guards.specs.Flags.{weights, is-flags, is-pattern, agrees, flags-admit, compatible, fresh, fixed, split}
 use Rattle.guards.specs.Lists.{every}
 use Rattle.guards.specs.declared.flags.FlagRow.{FlagRow}
 use Rattle.guards.proofs.Counting.{count-cons, Each, each-none, each-cons}
-use Rattle.guards.proofs.FlagBits.{every-same, every-and, at-weights, has-or}
-use Rattle.guards.proofs.FlagMeets.{matches, admits-made, value-admitted, or-small}
-use Rattle.guards.proofs.FlagTests.{Made, made, make}
+use Rattle.guards.proofs.Bits.{has-or}
+use Rattle.guards.proofs.FlagBits.{every-same, every-and, at-weights}
+use Rattle.guards.proofs.FlagMeets.{admits-made, value-admitted, or-small}
+use Rattle.guards.proofs.FlagTests.{made, make}
 
 -- a number that is one of the five bits
 record Weight (w : ℕ) : Type 0 where

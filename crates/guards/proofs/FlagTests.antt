@@ -1,15 +1,17 @@
 -- The tests that the code makes on whole numbers, and the definitions bit by bit.
 use mathlib.Core.Path.{_≡_, refl, sym, ap, ap₂, _∙_}
 use mathlib.Core.Bool.{Bool, true, false, not, _&&_, _||_, Bool·beq}
-use Prim.Native.Nat.{ℕ, _^_, _≤_, _<_}
+use Prim.Native.Nat.{ℕ, _^_, _≤_}
 use native.Mathlib.Omega.{arith}
 use lib.Bits.{bitAnd, and-le-l, and-le-r}
 use lib.Dec.{leb, eqb}
 use Rattle.std.proofs.shelf.Tests.{and-parts, and-from, eqb-true, le-leb, leb-true, leb-false, lt-leb, both-ways}
-use Rattle.guards.specs.Flags.{flags, weights, has, within, is-pattern, agrees, flags-admit, compatible, flags-overlap}
+use Rattle.guards.specs.Bits.{has}
+use Rattle.guards.specs.Flags.{flags, weights, within, is-pattern, agrees, flags-admit, compatible, flags-overlap}
 use Rattle.guards.specs.Lists.{every}
 use Rattle.guards.specs.declared.flags.FlagRow.{FlagRow}
-use Rattle.guards.proofs.FlagBits.{every-same, all-every, at-weights, has-and, same-bit, eqb-bits}
+use Rattle.guards.proofs.Bits.{has-and}
+use Rattle.guards.proofs.FlagBits.{every-same, all-every, at-weights, same-bit, eqb-bits}
 
 -- no bit of the value lies outside care
 within-test : (c v : ℕ) → v ≤ 31 → eqb (bitAnd v c) v ≡ every (within (flags c v)) weights

@@ -1,16 +1,15 @@
 -- The algebra of minutes keeps the laws.
 use mathlib.Core.Path.{_≡_, refl, ap₂, subst, _∙_}
 use mathlib.Core.Bool.{Bool, true, false, not, _&&_, cond}
-use mathlib.Core.List.{List, [], _∷_, _++_}
-use Prim.Native.Nat.{ℕ, _+_, _-_, _≤_, _<_, min, max}
+use mathlib.Core.List.{[], _∷_, _++_}
+use Prim.Native.Nat.{ℕ, _+_, _-_, min, max}
 use native.Mathlib.Omega.{arith}
-use lib.Dec.{leb, ltb}
-use Rattle.std.specs.declared.option.Option.{Option}
+use lib.Dec.{ltb}
 use Rattle.std.specs.declared.option.Option.the-variants.{Some, None}
 use Rattle.std.specs.shelf.Lists.{countBy}
 use Rattle.std.proofs.shelf.Ways.{tells}
 use Rattle.guards.specs.Algebra.{Laws}
-use Rattle.guards.specs.Minutes.{minutes, is-minute, is-range, minutes-admit, whole-day, minutes-meet, minutes-sample, below, above, minutes-parts, minutes-model}
+use Rattle.guards.specs.Minutes.{minutes, is-range, minutes-admit, minutes-sample, below, above, minutes-parts, minutes-model}
 use Rattle.guards.specs.declared.minutes.MinuteRow.{MinuteRow}
 use Rattle.guards.proofs.Counting.{count-append, count-if, Each, each-none, each-cons, each-append}
 

@@ -3,11 +3,12 @@ use mathlib.Core.Path.{_≡_}
 use mathlib.Core.Bool.{Bool, true, false, not, _&&_, _||_, Bool·beq, cond}
 use mathlib.Core.List.{List, [], _∷_}
 use Prim.Native.Nat.{ℕ}
-use lib.Bits.{bitAnd, bitOr}
-use lib.Dec.{leb, eqb}
+use lib.Bits.{bitOr}
+use lib.Dec.{leb}
 use Rattle.std.specs.declared.option.Option.{Option}
 use Rattle.std.specs.declared.option.Option.the-variants.{Some, None}
 use Rattle.guards.specs.Algebra.{Model}
+use Rattle.guards.specs.Bits.{has}
 use Rattle.guards.specs.Lists.{every}
 use Rattle.guards.specs.declared.flags.FlagRow.{FlagRow}
 use Rattle.guards.specs.declared.flags.FlagPattern.{FlagPattern}
@@ -24,10 +25,6 @@ no-flags = flags 0 1
 -- the five bits by weight, highest first: slot, crew, card, and the two of the activity
 abbrev pub weights : List ℕ
 weights = 16 ∷ 8 ∷ 4 ∷ 2 ∷ 1 ∷ []
-
--- the number has the bit of that weight
-abbrev pub has : ℕ → ℕ → Bool
-has n weight = not (eqb (bitAnd n weight) 0)
 
 abbrev pub is-flags : ℕ → Bool
 is-flags e = leb e 31

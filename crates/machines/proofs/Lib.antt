@@ -1,1 +1,1 @@
--- The lemmas that the proofs share.
+pub mod EndingBits

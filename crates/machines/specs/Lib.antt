@@ -1,4 +1,5 @@
 pub mod Automaton
+pub mod Endings
 pub mod Limits
 pub mod Machine
 pub mod Refusals

@@ -1,5 +1,5 @@
 -- The limits of a sheet, each number once.
-use Prim.Native.Nat.{ℕ, _-_, _*_}
+use Prim.Native.Nat.{ℕ, _-_}
 
 -- the most states of a rule and of a checked clause
 abbrev pub most-states : ℕ

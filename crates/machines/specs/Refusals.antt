@@ -3,7 +3,6 @@ use mathlib.Core.List.{List, [], _∷_}
 use Prim.Native.Nat.{ℕ}
 use Rattle.std.specs.declared.option.Option.{Option}
 use Rattle.std.specs.declared.option.Option.the-variants.{Some, None}
-use Rattle.guards.specs.declared.malformed.Malformed.{Malformed}
 use Rattle.guards.specs.declared.malformed.Malformed.the-variants.{Flags, Minutes}
 use Rattle.machines.specs.declared.refusals.Refusal.{Refusal}
 use Rattle.machines.specs.declared.refusals.Refusal.the-variants.{TooShort, TooManyStates, NoSuchState, TableFull, Clash, TooLarge, TooManyPairs, StrayMove, NoMove, NotSeparated, BadNumbers, OutOfPlace}

@@ -1,4 +1,6 @@
 // Machines whose moves carry guards: what they are made of, and why a call on one is refused.
+pub mod endings;
 pub mod joins;
+pub mod limits;
 pub mod moves;
 pub mod refusals;

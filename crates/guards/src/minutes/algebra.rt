@@ -1,7 +1,6 @@
 // The algebra of minutes: its functions read each row as a guard.
 ghost use mathlib.Core.Path.{_≡_};
 ghost use Rattle.guards.specs.Minutes.{minutes-model, minutes-admit, minutes-meet, minute-row, range-row, below, above};
-ghost use Rattle.std.specs.Options.{mapped};
 ghost use Rattle.std.specs.Vec.{listOf};
 use super::LAST_MINUTE;
 use super::MinuteGuard;

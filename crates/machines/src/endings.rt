@@ -1,0 +1,57 @@
+// Endings: the accepting states of a machine.
+ghost use lib.Dec.{eqb, ltb};
+ghost use mathlib.Core.Bool.{not, _||_, cond};
+ghost use mathlib.Core.Path.{_≡_};
+ghost use Prim.Native.Nat.{ℕ, _-_, _^_, _<_, _≤_};
+ghost use Rattle.machines.specs.Endings.{holds};
+use crate::limits::STATES;
+
+// A set of states below the limit, a bit for each.
+#[derive(Clone, Copy, PartialEq, Eq, Debug)]
+pub struct Endings {
+    mask: u64,
+}
+
+// The number whose bits are those below the count.
+fn ones(count: usize) -> u64
+    requires { ⌜ count ≤ 64 ⌝ }
+    ensures { λ r. ⌜ r ≡ 2 ^ count - 1 ⌝ }
+{
+    if count < STATES {
+        (1 << count) - 1
+    } else {
+        u64::MAX
+    }
+}
+
+impl Endings {
+    // No state at all.
+    pub const NONE: Endings = Endings { mask: 0 };
+
+    // Whether the state is in the set.
+    pub fn contains(self, state: usize) -> bool
+        ensures { λ r. ⌜ r ≡ holds self state ⌝ }
+    {
+        state < STATES && self.mask & 1 << state != 0
+    }
+
+    // The set with that state too.
+    pub(crate) fn insert(self, state: usize) -> Endings
+        requires { ⌜ state < 64 ⌝ }
+        ensures { λ r. ⌜ ((k : ℕ) → holds r k ≡ (holds self k || eqb k state)) ⌝ }
+    {
+        Endings {
+            mask: self.mask | 1 << state,
+        }
+    }
+
+    // The states below the count that are not in the set; the others as they are.
+    pub(crate) fn complement(self, count: usize) -> Endings
+        requires { ⌜ count ≤ 64 ⌝ }
+        ensures { λ r. ⌜ ((k : ℕ) → holds r k ≡ cond (ltb k count) (not (holds self k)) (holds self k)) ⌝ }
+    {
+        Endings {
+            mask: self.mask ^ ones(count),
+        }
+    }
+}
