@@ -1,4 +1,5 @@
 pub mod Automaton
+pub mod Calls
 pub mod Endings
 pub mod Limits
 pub mod Machine

@@ -12,17 +12,21 @@ pub record Told (E : Type 0) : Type 0 where
   pub carried : List ℕ
   pub sample : Option E
 
+-- a number, with the numbers that it carries
+abbrev pub tell : {E : Type 0} → ℕ → List ℕ → Told E
+tell number carried = record { number = number; carried = carried; sample = None }
+
 abbrev pub told : {E : Type 0} → Refusal E → Told E
-told TooShort = record { number = 1; carried = []; sample = None }
-told TooManyStates = record { number = 2; carried = []; sample = None }
-told (NoSuchState s) = record { number = 3; carried = s ∷ []; sample = None }
-told TableFull = record { number = 4; carried = []; sample = None }
-told (Clash i j e) = record { number = 5; carried = i ∷ j ∷ []; sample = Some e }
-told TooLarge = record { number = 6; carried = []; sample = None }
-told TooManyPairs = record { number = 7; carried = []; sample = None }
-told StrayMove = record { number = 8; carried = []; sample = None }
-told (NoMove k) = record { number = 9; carried = k ∷ []; sample = None }
-told NotSeparated = record { number = 10; carried = []; sample = None }
-told (BadNumbers Flags) = record { number = 11; carried = 1 ∷ []; sample = None }
-told (BadNumbers Minutes) = record { number = 11; carried = 2 ∷ []; sample = None }
-told OutOfPlace = record { number = 12; carried = []; sample = None }
+told TooShort = tell 1 []
+told TooManyStates = tell 2 []
+told (NoSuchState state) = tell 3 (state ∷ [])
+told TableFull = tell 4 []
+told (Clash first second sample) = record { number = 5; carried = first ∷ second ∷ []; sample = Some sample }
+told TooLarge = tell 6 []
+told TooManyPairs = tell 7 []
+told StrayMove = tell 8 []
+told (NoMove place) = tell 9 (place ∷ [])
+told NotSeparated = tell 10 []
+told (BadNumbers Flags) = tell 11 (1 ∷ [])
+told (BadNumbers Minutes) = tell 11 (2 ∷ [])
+told OutOfPlace = tell 12 []

@@ -1,6 +1,6 @@
 // Endings: the accepting states of a machine.
 ghost use lib.Dec.{eqb, ltb};
-ghost use mathlib.Core.Bool.{not, _||_, cond};
+ghost use mathlib.Core.Bool.{false, not, _||_, cond};
 ghost use mathlib.Core.Path.{_≡_};
 ghost use Prim.Native.Nat.{ℕ, _-_, _^_, _<_, _≤_};
 ghost use Rattle.machines.specs.Endings.{holds};
@@ -26,7 +26,11 @@ fn ones(count: usize) -> u64
 
 impl Endings {
     // No state at all.
-    pub const NONE: Endings = Endings { mask: 0 };
+    pub(crate) fn none() -> Endings
+        ensures { λ r. ⌜ ((k : ℕ) → holds r k ≡ false) ⌝ }
+    {
+        Endings { mask: 0 }
+    }
 
     // Whether the state is in the set.
     pub fn contains(self, state: usize) -> bool

@@ -1,4 +1,5 @@
 // Machines whose moves carry guards: what they are made of, and why a call on one is refused.
+pub mod clauses;
 pub mod endings;
 pub mod joins;
 pub mod limits;

@@ -59,3 +59,9 @@ impl<E> Refusal<E> {
         }
     }
 }
+
+// A refused call: what was moved into it, handed back, and why.
+pub struct Refused<T, E> {
+    pub value: T,
+    pub why: Refusal<E>,
+}

@@ -1,0 +1,48 @@
+// The moved values of a sheet: an open clause, a checked clause and a rule. Their moves lie in tables beside them.
+ghost use mathlib.Core.Bool.{true};
+ghost use mathlib.Core.Path.{_≡_};
+ghost use Prim.Native.Nat.{ℕ, _<_, _≤_};
+ghost use Rattle.machines.specs.Endings.{holds};
+ghost use Rattle.machines.specs.Limits.{most-states, most-written, most-moves};
+use crate::endings::Endings;
+
+mod checked;
+mod open;
+mod rules;
+
+// How many states a machine has, and how many moves of its table count.
+#[derive(Clone, Copy, PartialEq, Eq, Debug)]
+pub struct Counts {
+    pub states: usize,
+    pub moves: usize,
+}
+
+// A clause that is being written. It is spent by checking or discarding it.
+pub struct OpenClause {
+    counts: Counts,
+    endings: Endings,
+    ghost some: { 0 < counts .states },
+    ghost few: { counts .states ≤ most-written },
+    ghost room: { counts .moves ≤ most-moves },
+    ghost below: { (k : ℕ) → holds endings k ≡ true → k < counts .states },
+}
+
+// A clause that was checked. It is spent by joining or discarding it.
+pub struct CheckedClause {
+    counts: Counts,
+    endings: Endings,
+    ghost some: { 0 < counts .states },
+    ghost few: { counts .states ≤ most-states },
+    ghost room: { counts .moves ≤ most-moves },
+    ghost below: { (k : ℕ) → holds endings k ≡ true → k < counts .states },
+}
+
+// The standing rule of a sheet. It is spent by joining a clause to it, by turning it over, or by ending it.
+pub struct Rule {
+    counts: Counts,
+    endings: Endings,
+    ghost some: { 0 < counts .states },
+    ghost few: { counts .states ≤ most-states },
+    ghost room: { counts .moves ≤ most-moves },
+    ghost below: { (k : ℕ) → holds endings k ≡ true → k < counts .states },
+}
