@@ -86,12 +86,12 @@ pub has-one : (i k : ℕ) → has (2 ^ i) (2 ^ k) ≡ eqb k i
 has-one i k =
     has-digit k (2 ^ i)
     ∙ ⊎-elim
-      (λ e. ap (λ (x : ℕ). eqb (digit k (2 ^ x)) 1) e ∙ ap (λ (x : ℕ). eqb x 1) (digit-same k) ∙ sym (eq-eqb k i (sym e)))
-      (⊎-elim
-        (λ l. ap (λ (x : ℕ). eqb x 1) (digit-past (2 ^ i) k (pow-below i k l)) ∙ sym (ne-eqb k i (λ e. omega arith)))
-        (λ l. let e : i ≡ suc (i - k - 1) + k = omega arith in
-          ap (λ (x : ℕ). eqb (digit k (2 ^ x)) 1) e ∙ ap (λ (x : ℕ). eqb x 1) (digit-below (i - k - 1) k) ∙ sym (ne-eqb k i (λ e. omega arith))))
-      (cases-order i k)
+    (λ e. ap (λ (x : ℕ). eqb (digit k (2 ^ x)) 1) e ∙ ap (λ (x : ℕ). eqb x 1) (digit-same k) ∙ sym (eq-eqb k i (sym e)))
+    (⊎-elim
+    (λ l. ap (λ (x : ℕ). eqb x 1) (digit-past (2 ^ i) k (pow-below i k l)) ∙ sym (ne-eqb k i (λ e. omega arith)))
+    (λ l. let e : i ≡ suc (i - k - 1) + k = omega arith in
+    ap (λ (x : ℕ). eqb (digit k (2 ^ x)) 1) e ∙ ap (λ (x : ℕ). eqb x 1) (digit-below (i - k - 1) k) ∙ sym (ne-eqb k i (λ e. omega arith))))
+    (cases-order i k)
 
 ones-below : (j k : ℕ) → digit k (2 ^ (suc j + k) - 1) ≡ 1
 unfolding digit
@@ -110,7 +110,7 @@ pub has-ones : (n k : ℕ) → has (2 ^ n - 1) (2 ^ k) ≡ ltb k n
 has-ones n k =
     has-digit k (2 ^ n - 1)
     ∙ ⊎-elim
-      (λ l. let e : n ≡ suc (n - k - 1) + k = omega arith in
-        ap (λ (x : ℕ). eqb (digit k (2 ^ x - 1)) 1) e ∙ ap (λ (x : ℕ). eqb x 1) (ones-below (n - k - 1) k) ∙ sym (lt-ltb k n l))
-      (λ l. ap (λ (x : ℕ). eqb x 1) (digit-past (2 ^ n - 1) k (omega (arith, pow-mono l, pow-pos n))) ∙ sym (le-ltb k n l))
-      (cases-lt k n)
+    (λ l. let e : n ≡ suc (n - k - 1) + k = omega arith in
+    ap (λ (x : ℕ). eqb (digit k (2 ^ x - 1)) 1) e ∙ ap (λ (x : ℕ). eqb x 1) (ones-below (n - k - 1) k) ∙ sym (lt-ltb k n l))
+    (λ l. ap (λ (x : ℕ). eqb x 1) (digit-past (2 ^ n - 1) k (omega (arith, pow-mono l, pow-pos n))) ∙ sym (le-ltb k n l))
+    (cases-lt k n)

@@ -5,3 +5,4 @@ pub mod Limits
 pub mod Machine
 pub mod Refusals
 pub mod Search
+pub mod Values

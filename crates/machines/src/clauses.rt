@@ -1,9 +1,6 @@
 // The moved values of a sheet: an open clause, a checked clause and a rule. Their moves lie in tables beside them.
-ghost use mathlib.Core.Bool.{true};
-ghost use mathlib.Core.Path.{_≡_};
-ghost use Prim.Native.Nat.{ℕ, _<_, _≤_};
-ghost use Rattle.machines.specs.Endings.{holds};
-ghost use Rattle.machines.specs.Limits.{most-states, most-written, most-moves};
+ghost use Rattle.machines.specs.Limits.{most-states, most-written};
+ghost use Rattle.machines.specs.Values.{Within};
 use crate::endings::Endings;
 
 mod checked;
@@ -21,28 +18,19 @@ pub struct Counts {
 pub struct OpenClause {
     counts: Counts,
     endings: Endings,
-    ghost some: { 0 < counts .states },
-    ghost few: { counts .states ≤ most-written },
-    ghost room: { counts .moves ≤ most-moves },
-    ghost below: { (k : ℕ) → holds endings k ≡ true → k < counts .states },
+    ghost within: { Within most-written counts endings },
 }
 
 // A clause that was checked. It is spent by joining or discarding it.
 pub struct CheckedClause {
     counts: Counts,
     endings: Endings,
-    ghost some: { 0 < counts .states },
-    ghost few: { counts .states ≤ most-states },
-    ghost room: { counts .moves ≤ most-moves },
-    ghost below: { (k : ℕ) → holds endings k ≡ true → k < counts .states },
+    ghost within: { Within most-states counts endings },
 }
 
 // The standing rule of a sheet. It is spent by joining a clause to it, by turning it over, or by ending it.
 pub struct Rule {
     counts: Counts,
     endings: Endings,
-    ghost some: { 0 < counts .states },
-    ghost few: { counts .states ≤ most-states },
-    ghost room: { counts .moves ≤ most-moves },
-    ghost below: { (k : ℕ) → holds endings k ≡ true → k < counts .states },
+    ghost within: { Within most-states counts endings },
 }

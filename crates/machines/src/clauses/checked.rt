@@ -8,7 +8,10 @@ use guards::algebra::Algebra;
 impl CheckedClause {
     // Ends the clause.
     pub fn discard<A: Algebra>(self, alg: &A) {
-        let CheckedClause { counts: _, endings: _ } = self;
+        let CheckedClause {
+            counts: _,
+            endings: _,
+        } = self;
     }
 
     pub fn counts(&self) -> Counts

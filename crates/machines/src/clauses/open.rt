@@ -26,7 +26,10 @@ impl OpenClause {
     }
 
     // One state more, and its number.
-    pub fn add<A: Algebra>(self, alg: &A) -> Result<(OpenClause, usize), Refused<OpenClause, A::Entry>>
+    pub fn add<A: Algebra>(
+        self,
+        alg: &A,
+    ) -> Result<(OpenClause, usize), Refused<OpenClause, A::Entry>>
         ensures { λ r. ⌜ Outcome (adding-refused self) (Added self) self (Unit {0}) r ⌝ }
     {
         if self.counts.states >= WRITTEN_STATES {
@@ -45,7 +48,11 @@ impl OpenClause {
     }
 
     // The clause with that state an ending.
-    pub fn mark<A: Algebra>(self, alg: &A, state: usize) -> Result<OpenClause, Refused<OpenClause, A::Entry>>
+    pub fn mark<A: Algebra>(
+        self,
+        alg: &A,
+        state: usize,
+    ) -> Result<OpenClause, Refused<OpenClause, A::Entry>>
         ensures { λ r. ⌜ Outcome (marking-refused self state) (Marked self state) self (Unit {0}) r ⌝ }
     {
         if state >= self.counts.states {
@@ -106,7 +113,10 @@ impl OpenClause {
 
     // Ends the clause.
     pub fn discard<A: Algebra>(self, alg: &A) {
-        let OpenClause { counts: _, endings: _ } = self;
+        let OpenClause {
+            counts: _,
+            endings: _,
+        } = self;
     }
 
     pub fn counts(&self) -> Counts

@@ -14,7 +14,10 @@ use guards::algebra::Algebra;
 
 impl Rule {
     // A rule that accepts every day: one state, an ending, with the whole guard to itself.
-    pub fn new_sheet<A: Algebra>(alg: &A, table: &mut [Move<A::Guard>]) -> Result<Rule, Refusal<A::Entry>>
+    pub fn new_sheet<A: Algebra>(
+        alg: &A,
+        table: &mut [Move<A::Guard>],
+    ) -> Result<Rule, Refusal<A::Entry>>
         ensures { λ r. ⌜ Cases r (λ rule. (new-sheet-refused {E = A·Entry} (now (table .entry)) ≡ None) × NewSheet (model (now (alg .entry)) .whole) (now (table .entry)) rule (now (table .exit))) (λ why. (new-sheet-refused (now (table .entry)) ≡ Some (told why)) × (now (table .exit) ≡ now (table .entry))) ⌝ }
     {
         if table.len() < MOVES {
@@ -47,7 +50,10 @@ impl Rule {
 
     // Ends the rule.
     pub fn end<A: Algebra>(self, alg: &A) {
-        let Rule { counts: _, endings: _ } = self;
+        let Rule {
+            counts: _,
+            endings: _,
+        } = self;
     }
 
     pub fn counts(&self) -> Counts
