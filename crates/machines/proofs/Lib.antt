@@ -1,3 +1,5 @@
 -- The lemmas that the proofs share.
 pub mod Automata
+pub mod Loops
 pub mod Members
+pub mod Searching

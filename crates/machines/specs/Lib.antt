@@ -2,4 +2,5 @@ pub mod Automaton
 pub mod Limits
 pub mod Machine
 pub mod Refusals
+pub mod Running
 pub mod Search
