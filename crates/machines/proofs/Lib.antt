@@ -1,1 +1,6 @@
+pub mod Automata
 pub mod EndingBits
+pub mod Loops
+pub mod MachineRuns
+pub mod Members
+pub mod Searching

@@ -4,5 +4,6 @@ pub mod Endings
 pub mod Limits
 pub mod Machine
 pub mod Refusals
+pub mod Running
 pub mod Search
 pub mod Values

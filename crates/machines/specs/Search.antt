@@ -1,10 +1,10 @@
--- Breadth-first search over nodes of any kind.
+-- Breadth-first search over nodes of any kind, and what it finds.
 use mathlib.Core.Path.{_≡_}
 use mathlib.Core.Bool.{Bool, true, cond}
 use mathlib.Core.List.{List, [], _∷_, _++_}
 use Prim.Native.Nat.{ℕ, zero, suc}
 use lib.ListN.{drop}
-use Rattle.guards.specs.Lists.{any}
+use Rattle.guards.specs.Lists.{Member, any}
 
 -- the test tells whether two nodes are the same
 pub record Tells {X : Type 0} (same : X → X → Bool) : Type 0 where
@@ -33,3 +33,20 @@ module _ {X : Type 0} (same : X → X → Bool) where
     -- the nodes reached from x, breadth first; as much fuel as there are nodes visits them all
     abbrev pub reached : ℕ → X → List X
     reached fuel x = visit fuel 0 (x ∷ [])
+
+-- none stands twice
+abbrev pub NoRepeat : {X : Type 0} → List X → Type 0
+NoRepeat [] = Unit {0}
+NoRepeat (x ∷ xs) = (Member x xs → ⊥) × NoRepeat xs
+
+-- y is reached from x by successors
+pub data Reaches {X : Type 0} (successors : X → List X) (x : X) : X → Type 0 where
+  itself : Reaches successors x x
+  after : {y z : X} → Reaches successors x y → Member z (successors y) → Reaches successors x z
+
+-- the list has each node that is reached from x once, and nothing else, and x stands first
+pub record Searched {X : Type 0} (successors : X → List X) (x : X) (xs : List X) : Type 0 where
+  pub first : (rest : List X) × (xs ≡ x ∷ rest)
+  pub once : NoRepeat xs
+  pub closed : (y z : X) → Member y xs → Member z (successors y) → Member z xs
+  pub only : (y : X) → Member y xs → Reaches successors x y

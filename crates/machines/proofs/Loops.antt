@@ -1,0 +1,46 @@
+-- Loops over what is left of a list: one that looks for the first element that passes a test, and one that walks along entries.
+use mathlib.Core.Path.{_≡_, sym, ap, _∙_}
+use mathlib.Core.Bool.{Bool, true, false, cond}
+use mathlib.Core.List.{List, [], _∷_}
+use Prim.Native.Nat.{ℕ, _+_, _<_, _≤_}
+use lib.ListN.{length, getD, drop}
+use Rattle.std.proofs.shelf.Lists.{at-drop-more, at-drop-all}
+use Rattle.std.proofs.shelf.Tests.{cond-true, cond-false}
+use Rattle.std.specs.declared.option.Option.{Option}
+use Rattle.std.specs.declared.option.Option.the-variants.{Some, None}
+use Rattle.std.specs.declared.result.Result.{Result}
+use Rattle.std.specs.declared.result.Result.the-variants.{Ok, Err}
+use Rattle.machines.specs.Running.{first-found, onward, walk}
+
+-- a function of what is left, at the element x that was read at i
+pub at-read-more : {X Y : Type 0} (F : List X → Y) (xs : List X) (i : ℕ) (x : X) → i < length xs → x ≡ getD xs i x → F (drop i xs) ≡ F (x ∷ drop (i + 1) xs)
+at-read-more F xs i x lt read = at-drop-more F xs i x lt ∙ ap (λ y. F (y ∷ drop (i + 1) xs)) (sym read)
+
+-- a loop that looks for the first element that passes: what is left gives the answer
+module _ {X Y : Type 0} (test : X → Bool) (get : X → Y) (xs : List X) (i : ℕ) (answer : Option Y) (inv : first-found test get (drop i xs) ≡ answer) where
+  found-at : (x : X) → i < length xs → x ≡ getD xs i x → cond (test x) (Some (get x)) (first-found test get (drop (i + 1) xs)) ≡ answer
+  found-at x lt read = sym (at-read-more (first-found test get) xs i x lt read) ∙ inv
+
+  pub found-hit : (x : X) → i < length xs → x ≡ getD xs i x → test x ≡ true → Some (get x) ≡ answer
+  found-hit x lt read t = sym (cond-true (test x) (Some (get x)) (first-found test get (drop (i + 1) xs)) t) ∙ found-at x lt read
+
+  pub found-more : (x : X) → i < length xs → x ≡ getD xs i x → test x ≡ false → first-found test get (drop (i + 1) xs) ≡ answer
+  found-more x lt read t = sym (cond-false (test x) (Some (get x)) (first-found test get (drop (i + 1) xs)) t) ∙ found-at x lt read
+
+  pub found-none : length xs ≤ i → None ≡ answer
+  found-none h = sym (at-drop-all (first-found test get) xs i h) ∙ inv
+
+-- a loop that walks along the entries, at the state q: what is left gives the answer
+module _ {E : Type 0} (step : ℕ → E → Option ℕ) (entries : List E) (i q : ℕ) (answer : Result ℕ ℕ) (inv : walk step i q (drop i entries) ≡ answer) where
+  walk-at : (e : E) (o : Option ℕ) → i < length entries → e ≡ getD entries i e → step q e ≡ o → onward o i (λ r. walk step (i + 1) r (drop (i + 1) entries)) ≡ answer
+  walk-at e o lt read is =
+      ap (λ p. onward p i (λ r. walk step (i + 1) r (drop (i + 1) entries))) (sym is) ∙ sym (at-read-more (walk step i q) entries i e lt read) ∙ inv
+
+  pub walk-more : (e : E) (r : ℕ) → i < length entries → e ≡ getD entries i e → step q e ≡ Some r → walk step (i + 1) r (drop (i + 1) entries) ≡ answer
+  walk-more e r = walk-at e (Some r)
+
+  pub walk-stop : (e : E) → i < length entries → e ≡ getD entries i e → step q e ≡ None → Err i ≡ answer
+  walk-stop e = walk-at e None
+
+  pub walk-all : length entries ≤ i → Ok q ≡ answer
+  walk-all h = sym (at-drop-all (walk step i q) entries i h) ∙ inv
