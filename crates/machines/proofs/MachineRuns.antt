@@ -8,7 +8,6 @@ use lib.Dec.{eqb}
 use Rattle.std.proofs.shelf.Tests.{and-parts, and-from, both-ways, eq-eqb, eqb-true}
 use Rattle.std.specs.Options.{valueOr}
 use Rattle.std.specs.Orderings.{Decides}
-use Rattle.std.specs.declared.option.Option.{Option}
 use Rattle.std.specs.declared.option.Option.the-variants.{Some}
 use Rattle.std.specs.declared.result.Result.the-variants.{Ok}
 use Rattle.guards.specs.Algebra.{Model, Laws}
