@@ -1,6 +1,6 @@
--- Loops over what is left of a list: one that looks for the first element that passes a test, and one that walks along entries.
+-- Loops over what is left of a list: looking for the first element that passes a test, asking whether any does, walking along entries.
 use mathlib.Core.Path.{_≡_, sym, ap, _∙_}
-use mathlib.Core.Bool.{Bool, true, false, cond}
+use mathlib.Core.Bool.{Bool, true, false, _||_, cond}
 use mathlib.Core.List.{List, _∷_}
 use Prim.Native.Nat.{ℕ, _+_, _<_, _≤_}
 use lib.ListN.{length, getD, drop}
@@ -10,6 +10,7 @@ use Rattle.std.specs.declared.option.Option.{Option}
 use Rattle.std.specs.declared.option.Option.the-variants.{Some, None}
 use Rattle.std.specs.declared.result.Result.{Result}
 use Rattle.std.specs.declared.result.Result.the-variants.{Ok, Err}
+use Rattle.guards.specs.Lists.{any}
 use Rattle.machines.specs.Running.{first-found, onward, walk}
 
 -- a function of what is left, at the element x that was read at i
@@ -29,6 +30,20 @@ module _ {X Y : Type 0} (test : X → Bool) (get : X → Y) (xs : List X) (i : �
 
   pub found-none : length xs ≤ i → None ≡ answer
   found-none h = sym (at-drop-all (first-found test get) xs i h) ∙ inv
+
+-- a loop that asks whether any passes: what is left gives the answer
+module _ {X : Type 0} (test : X → Bool) (xs : List X) (i : ℕ) (answer : Bool) (inv : any test (drop i xs) ≡ answer) where
+  any-at : (x : X) → i < length xs → x ≡ getD xs i x → (t : Bool) → test x ≡ t → (t || any test (drop (i + 1) xs)) ≡ answer
+  any-at x lt read t is = ap (λ s. s || any test (drop (i + 1) xs)) (sym is) ∙ sym (at-read-more (any test) xs i x lt read) ∙ inv
+
+  pub any-hit : (x : X) → i < length xs → x ≡ getD xs i x → test x ≡ true → true ≡ answer
+  any-hit x lt read = any-at x lt read true
+
+  pub any-more : (x : X) → i < length xs → x ≡ getD xs i x → test x ≡ false → any test (drop (i + 1) xs) ≡ answer
+  any-more x lt read = any-at x lt read false
+
+  pub any-none : length xs ≤ i → false ≡ answer
+  any-none h = sym (at-drop-all (any test) xs i h) ∙ inv
 
 -- a loop that walks along the entries, at the state q: what is left gives the answer
 module _ {E : Type 0} (step : ℕ → E → Option ℕ) (entries : List E) (i q : ℕ) (answer : Result ℕ ℕ) (inv : walk step i q (drop i entries) ≡ answer) where

@@ -8,7 +8,7 @@ use native.Mathlib.Omega.{arith}
 use lib.ListN.{length}
 use Rattle.std.specs.shelf.Lists.{kept-by, joined}
 use Rattle.std.proofs.shelf.Lists.{length-map}
-use Rattle.std.proofs.shelf.Tests.{cases-eq, or-cases, or-left, or-right, and-parts, and-from, and-cases, both-ways, true≢false, false≢true}
+use Rattle.std.proofs.shelf.Tests.{cases-eq, or-cases, or-left, or-right, and-parts, and-from, and-cases, both-ways, true≢false, false≢true, or-from}
 use Rattle.guards.specs.Lists.{Member, any, every}
 use Rattle.machines.specs.Search.{NoRepeat}
 
@@ -107,6 +107,10 @@ module _ {X : Type 0} (test : X → Bool) where
         | true ↦ λ h k. elim k [ inl e ↦ (inl e, ap test (sym e) ∙ h) | inr n ↦ let r = kept-member x xs n in (inr (r .0), r .1) ]
         | false ↦ λ h k. let r = kept-member x xs k in (inr (r .0), r .1)
       ]) refl m
+
+  pub none-any : (xs : List X) → ((x : X) → Member x xs → test x ≡ false) → any test xs ≡ false
+  none-any [] h = refl
+  none-any (x ∷ xs) h = or-from (test x) (any test xs) (h x (inl refl)) (none-any xs (λ y m. h y (inr m)))
 
   pub any-some : (xs : List X) → any test xs ≡ true → (x : X) × Member x xs × (test x ≡ true)
   any-some [] h = absurd (false≢true h)

@@ -3,6 +3,8 @@ use mathlib.Core.List.{List, [], _∷_}
 use Prim.Native.Nat.{ℕ}
 use Rattle.std.specs.declared.option.Option.{Option}
 use Rattle.std.specs.declared.option.Option.the-variants.{Some, None}
+use Rattle.std.specs.declared.result.Result.{Result}
+use Rattle.std.specs.declared.result.Result.the-variants.{Ok, Err}
 use Rattle.guards.specs.declared.malformed.Malformed.the-variants.{Flags, Minutes}
 use Rattle.machines.specs.declared.refusals.Refusal.{Refusal}
 use Rattle.machines.specs.declared.refusals.Refusal.the-variants.{TooShort, TooManyStates, NoSuchState, TableFull, Clash, TooLarge, TooManyPairs, StrayMove, NoMove, NotSeparated, BadNumbers, OutOfPlace}
@@ -30,3 +32,8 @@ told NotSeparated = tell 10 []
 told (BadNumbers Flags) = tell 11 (1 ∷ [])
 told (BadNumbers Minutes) = tell 11 (2 ∷ [])
 told OutOfPlace = tell 12 []
+
+-- an answer, or what the refusal tells
+abbrev pub said : {E U : Type 0} → Result U (Refusal E) → Result U (Told E)
+said (Ok answer) = Ok answer
+said (Err why) = Err (told why)

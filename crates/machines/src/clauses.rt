@@ -6,6 +6,7 @@ use crate::endings::Endings;
 mod checked;
 mod open;
 mod rules;
+mod running;
 
 // How many states a machine has, and how many moves of its table count.
 #[derive(Clone, Copy, PartialEq, Eq, Debug)]
