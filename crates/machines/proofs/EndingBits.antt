@@ -1,11 +1,10 @@
 -- The states of a set of endings, over a limit n.
-use mathlib.Core.Path.{_≡_, refl, sym, ap, ap₂, _∙_}
+use mathlib.Core.Path.{_≡_, ap, _∙_}
 use mathlib.Core.Bool.{Bool, true, false, not, _&&_, _||_, cond}
 use Prim.Native.Nat.{ℕ, _-_, _^_, _≤_, _<_}
 use native.Mathlib.Omega.{arith}
 use lib.Bits.{bitOr, bitXor}
 use lib.Dec.{eqb, ltb}
-use Rattle.std.proofs.shelf.Tests.{eqb-true, lt-ltb}
 use Rattle.std.proofs.shelf.Ways.{tells}
 use Rattle.guards.specs.Bits.{has}
 use Rattle.guards.proofs.Bits.{has-or, has-xor, has-one, has-ones}

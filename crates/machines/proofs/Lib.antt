@@ -5,3 +5,4 @@ pub mod MachineRuns
 pub mod RunMeanings
 pub mod Members
 pub mod Searching
+pub mod Turned

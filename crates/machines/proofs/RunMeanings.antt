@@ -1,11 +1,11 @@
 -- What running a day means on a proper machine.
-use mathlib.Core.Path.{_≡_, refl, sym, ap, subst, _∙_}
-use mathlib.Core.Bool.{Bool, true, false, _||_, cond}
-use mathlib.Core.List.{List, [], _∷_}
-use Prim.Native.Nat.{ℕ, _<_, _≤_}
+use mathlib.Core.Path.{_≡_, ap, subst, _∙_}
+use mathlib.Core.Bool.{Bool, false, cond}
+use mathlib.Core.List.{List, []}
+use Prim.Native.Nat.{ℕ, _<_}
 use native.Mathlib.Omega.{arith}
-use lib.Dec.{leb, ltb}
-use lib.ListN.{length, take}
+use lib.Dec.{ltb}
+use lib.ListN.{length}
 use Rattle.std.specs.Orderings.{Decides}
 use Rattle.std.specs.Results.{Cases}
 use Rattle.std.specs.declared.result.Result.{Result}
@@ -15,8 +15,8 @@ use Rattle.guards.specs.Algebra.{Model, Laws}
 use Rattle.guards.specs.Lists.{any}
 use Rattle.machines.specs.Endings.{holds}
 use Rattle.machines.specs.Limits.{most-moves}
-use Rattle.machines.specs.Machine.{Machine, Day, LeadsTo, Accepts, Proper, InRange}
-use Rattle.machines.specs.Refusals.{Told, tell, said, told}
+use Rattle.machines.specs.Machine.{Machine, LeadsTo, Accepts, InRange}
+use Rattle.machines.specs.Refusals.{Told, tell, said}
 use Rattle.machines.specs.Running.{next, walk, stray, ended, ran, RunMeaning}
 use Rattle.machines.specs.Values.{machine}
 use Rattle.machines.specs.declared.clauses.Counts.{Counts}

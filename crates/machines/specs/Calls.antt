@@ -12,9 +12,10 @@ use Rattle.std.specs.declared.result.Result.the-variants.{Ok, Err}
 use Rattle.machines.specs.declared.clauses.OpenClause.{OpenClause}
 use Rattle.machines.specs.declared.clauses.Rule.{Rule}
 use Rattle.machines.specs.declared.moves.Move.{Move}
+use Rattle.machines.specs.declared.refusals.Refusal.{Refusal}
 use Rattle.machines.specs.declared.refusals.Refused.{Refused}
 use Rattle.machines.specs.Endings.{holds}
-use Rattle.machines.specs.Limits.{most-states, most-written, most-moves}
+use Rattle.machines.specs.Limits.{most-written, most-moves}
 use Rattle.machines.specs.Refusals.{Told, tell, told}
 
 -- the test refuses, or else what comes after it does
@@ -52,6 +53,11 @@ pub record NewSheet {G : Type 0} (whole : G) (before : List (Move G)) (rule : Ru
   pub moves : rule .counts .moves ≡ 1
   pub endings : (k : ℕ) → holds (rule .endings) k ≡ eqb k 0
   pub table : after ≡ set before 0 (record { from = 0; guard = whole; to = 0 })
+
+-- a new sheet, or a refusal that leaves the table as it was
+abbrev pub SheetOutcome : {E G : Type 0} → G → List (Move G) → List (Move G) → Result Rule (Refusal E) → Type 0
+SheetOutcome {E} whole before after (Ok rule) = (new-sheet-refused {E = E} before ≡ None) × NewSheet whole before rule after
+SheetOutcome whole before after (Err why) = (new-sheet-refused before ≡ Some (told why)) × (after ≡ before)
 
 -- state 0 alone
 pub record Opened (c : OpenClause) : Type 0 where

@@ -6,4 +6,5 @@ pub mod Machine
 pub mod Refusals
 pub mod Running
 pub mod Search
+pub mod Turning
 pub mod Values

@@ -1,4 +1,4 @@
--- The limits of a sheet, each number once.
+-- The limits of a sheet. Those on states follow from one number.
 use Prim.Native.Nat.{ℕ, _-_}
 
 -- the most states of a rule and of a checked clause

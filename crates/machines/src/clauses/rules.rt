@@ -1,9 +1,7 @@
 // The calls on a rule: a new sheet, turning over and ending.
 ghost use mathlib.Core.Path.{_≡_};
-ghost use Rattle.machines.specs.Calls.{NewSheet, Turned, new-sheet-refused};
-ghost use Rattle.machines.specs.Refusals.{told};
-ghost use Rattle.std.specs.Results.{Cases};
-ghost use Rattle.std.specs.declared.option.Option.the-variants.{Some, None};
+ghost use Rattle.machines.specs.Calls.{SheetOutcome, Turned};
+ghost use Rattle.machines.specs.Turning.{TurnMeaning};
 use super::Counts;
 use super::Rule;
 use crate::endings::Endings;
@@ -18,7 +16,7 @@ impl Rule {
         alg: &A,
         table: &mut [Move<A::Guard>],
     ) -> Result<Rule, Refusal<A::Entry>>
-        ensures { λ r. ⌜ Cases r (λ rule. (new-sheet-refused {E = A·Entry} (now (table .entry)) ≡ None) × NewSheet (model (now (alg .entry)) .whole) (now (table .entry)) rule (now (table .exit))) (λ why. (new-sheet-refused (now (table .entry)) ≡ Some (told why)) × (now (table .exit) ≡ now (table .entry))) ⌝ }
+        ensures { λ r. ⌜ SheetOutcome (model (now (alg .entry)) .whole) (now (table .entry)) (now (table .exit)) r ⌝ }
     {
         if table.len() < MOVES {
             return Err(Refusal::TooShort);
@@ -37,8 +35,8 @@ impl Rule {
         })
     }
 
-    // The complement: endings and other states change sides.
-    pub fn turn<A: Algebra>(self, alg: &A) -> Rule
+    // Endings and other states change sides.
+    fn complement(self) -> Rule
         ensures { λ r. ⌜ Turned self r ⌝ }
     {
         let Rule { counts, endings } = self;
@@ -46,6 +44,14 @@ impl Rule {
             counts,
             endings: endings.complement(counts.states),
         }
+    }
+
+    // The rule that accepts exactly the other days.
+    pub fn turn<A: Algebra>(self, alg: &A) -> Rule
+        ensures value { λ r. ⌜ Turned self r ⌝ }
+        ensures meaning { λ r. ⌜ TurnMeaning (model (now (alg .entry))) self r ⌝ }
+    {
+        self.complement()
     }
 
     // Ends the rule.

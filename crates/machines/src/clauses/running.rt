@@ -39,11 +39,7 @@ fn next_state<A: Algebra>(
 }
 
 // The state that the day leads to from 0, or the place of the first entry without a next state.
-fn follow<A: Algebra>(
-    alg: &A,
-    moves: &[Move<A::Guard>],
-    day: &[A::Entry],
-) -> Result<usize, usize>
+fn follow<A: Algebra>(alg: &A, moves: &[Move<A::Guard>], day: &[A::Entry]) -> Result<usize, usize>
     ensures { λ r. ⌜ r ≡ walk (next (model (now (alg .entry))) (now (moves .entry))) 0 0 (now (day .entry)) ⌝ }
 {
     let mut state = 0;

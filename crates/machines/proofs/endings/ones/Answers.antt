@@ -1,7 +1,7 @@
 use mathlib.Core.Path.{_≡_, sym, ap}
 use Prim.Native.Nat.{_-_, _^_}
 use native.Mathlib.Omega.{arith}
-use Rattle.std.proofs.shelf.Bits.{one-shl, pow-pos}
+use Rattle.std.proofs.shelf.Bits.{one-shl}
 use Rattle.machines.proofs.endings.ones.Needs as need
 
 pub returns-then-count-lt-STATES : need.returns-then-count-lt-STATES
