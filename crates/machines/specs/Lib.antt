@@ -1,5 +1,7 @@
 pub mod Automaton
 pub mod Calls
+pub mod Checking
+pub mod Clashes
 pub mod Endings
 pub mod Limits
 pub mod Machine

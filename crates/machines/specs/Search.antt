@@ -12,6 +12,11 @@ pub record Tells {X : Type 0} (same : X → X → Bool) : Type 0 where
   pub equal : (x y : X) → same x y ≡ true → x ≡ y
 
 module _ {X : Type 0} (same : X → X → Bool) where
+  -- the place of the first that is the same as x
+  abbrev pub place-of : X → List X → ℕ
+  place-of x [] = 0
+  place-of x (y ∷ ys) = cond (same x y) 0 (suc (place-of x ys))
+
   -- one more at the end, if it is new
   abbrev pub add : List X → X → List X
   add found y = cond (any (same y) found) found (found ++ (y ∷ []))
