@@ -1,3 +1,4 @@
+pub mod Appending
 pub mod Automata
 pub mod EndingBits
 pub mod Loops

@@ -3,6 +3,7 @@ pub mod Calls
 pub mod Checking
 pub mod Clashes
 pub mod Endings
+pub mod Filled
 pub mod Limits
 pub mod Machine
 pub mod Refusals

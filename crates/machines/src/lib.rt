@@ -1,7 +1,9 @@
 // Machines whose moves carry guards: what they are made of, and why a call on one is refused.
+mod buffers;
 pub mod clauses;
 pub mod endings;
 pub mod joins;
 pub mod limits;
 pub mod moves;
 pub mod refusals;
+mod rests;

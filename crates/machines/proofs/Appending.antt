@@ -1,0 +1,45 @@
+-- Loops that append to a buffer what each element of a list gives.
+use mathlib.Core.Path.{_≡_, refl, sym, ap, _∙_}
+use mathlib.Core.List.{List, [], _∷_, _++_}
+use Prim.Native.Nat.{ℕ, zero, suc, _+_, _<_, _≤_}
+use native.Mathlib.Omega.{arith}
+use native.Mathlib.Numerals.{add-one}
+use lib.ListN.{length, getD, take, drop, length-append}
+use Rattle.std.specs.declared.option.Option.the-variants.{Some, None}
+use Rattle.std.specs.shelf.Lists.{joined}
+use Rattle.std.specs.shelf.Maps.{nth}
+use Rattle.std.proofs.shelf.Lists.{append-assoc, take-more, take-all, take-append-drop, joined-more}
+
+pub joined-append : {X Y : Type 0} (f : X → List Y) (xs ys : List X) → joined f (xs ++ ys) ≡ joined f xs ++ joined f ys
+joined-append f [] ys = refl
+joined-append f (x ∷ xs) ys = ap (λ zs. f x ++ zs) (joined-append f xs ys) ∙ sym (append-assoc (f x) (joined f xs) (joined f ys))
+
+-- one element more of a list of parts
+pub nth-more : {X : Type 0} (xs : List X) (k : ℕ) (x : X) → nth xs k ≡ Some x → take (k + 1) xs ≡ take k xs ++ (x ∷ [])
+nth-more [] k x h = let z : _≡_ {A = ℕ} 0 1 = cc in absurd (omega arith)
+nth-more (y ∷ ys) zero x h = let e : y ≡ x = cc in ap (λ z. z ∷ []) e
+nth-more (y ∷ ys) (suc k) x h = ?
+
+-- at the element x, which stands at place i: the buffer's front is what came before the loop and what the elements before i gave
+module _ {X Y : Type 0} (f : X → List Y) (front : List Y) (xs : List X) (i : ℕ) (built : List Y) (inv : built ≡ front ++ joined f (take i xs)) where
+  -- with what x gives it is what the elements up to i gave
+  pub append-more : (x : X) → i < length xs → x ≡ getD xs i x → built ++ f x ≡ front ++ joined f (take (i + 1) xs)
+  append-more x lt read =
+      ap (λ ys. ys ++ f x) inv ∙ append-assoc front (joined f (take i xs)) (f x)
+      ∙ ap (λ ys. front ++ ys) (joined-more f [] (take i xs) x ∙ sym (ap (joined f) (take-more xs i x lt ∙ ap (λ y. take i xs ++ (y ∷ [])) (sym read))))
+
+  -- where that has no room, the whole has none
+  pub append-short : (x : X) (room : ℕ) → i < length xs → x ≡ getD xs i x → room < length (built ++ f x) → room < length (front ++ joined f xs)
+  append-short x room lt read short =
+      omega (
+        arith,
+        ap length (append-more x lt read),
+        length-append front (joined f (take (i + 1) xs)),
+        length-append front (joined f xs),
+        ap length (joined-append f (take (i + 1) xs) (drop (i + 1) xs)),
+        length-append (joined f (take (i + 1) xs)) (joined f (drop (i + 1) xs)),
+        ap (λ ys. length (joined f ys)) (take-append-drop (i + 1) xs),
+      )
+
+  pub append-all : length xs ≤ i → built ≡ front ++ joined f xs
+  append-all h = inv ∙ ap (λ ys. front ++ joined f ys) (take-all i xs h)
