@@ -18,6 +18,7 @@ use machines::moves::MovePartialEq;
 use machines::refusals::Refusal;
 use machines::refusals::RefusalDebug;
 use machines::refusals::RefusalPartialEq;
+use machines::refusals::Refused;
 use std::test::*;
 
 // A move of numbers that make no guard, between states that no sheet has.
@@ -76,12 +77,16 @@ fn full_clause() -> (OpenClause, usize) {
     let mut refused = 0usize;
     for _ in 1..70 {
         clause = match clause.add(&Minutes) {
-            Ok((clause, _)) => clause,
+            Ok(added) => {
+                let (clause, _) = added;
+                clause
+            }
             Err(back) => {
-                if back.why.number() == 2 {
+                let Refused { value, why } = back;
+                if why.number() == 2 {
                     refused = refused.saturating_add(1);
                 }
-                back.value
+                value
             }
         };
     }
@@ -108,13 +113,15 @@ fn mark_twice(state: usize) -> Result<bool, Refusal<u16>> {
                 Ok(endings.contains(state))
             }
             Err(back) => {
-                back.value.discard(&Minutes);
-                Err(back.why)
+                let Refused { value, why } = back;
+                value.discard(&Minutes);
+                Err(why)
             }
         },
         Err(back) => {
-            back.value.discard(&Minutes);
-            Err(back.why)
+            let Refused { value, why } = back;
+            value.discard(&Minutes);
+            Err(why)
         }
     }
 }
@@ -125,7 +132,10 @@ fn marking() -> Result<(), Fail> {
     check_eq(mark_twice(62), Ok(true))?;
     check_eq(mark_twice(63), Err(Refusal::NoSuchState(63)))?;
     check_eq(mark_twice(64), Err(Refusal::NoSuchState(64)))?;
-    check_eq(mark_twice(usize::MAX), Err(Refusal::NoSuchState(usize::MAX)))
+    check_eq(
+        mark_twice(usize::MAX),
+        Err(Refusal::NoSuchState(usize::MAX)),
+    )
 }
 
 // The moves of a clause of one state after a move was written, or what the refusal tells.
@@ -137,8 +147,9 @@ fn write_one(table: &mut [Move<MinuteRow>], line: Move<MinuteRow>) -> Result<usi
             Ok(counts.moves)
         }
         Err(back) => {
-            back.value.discard(&Minutes);
-            Err(back.why)
+            let Refused { value, why } = back;
+            value.discard(&Minutes);
+            Err(why)
         }
     }
 }
@@ -155,7 +166,12 @@ fn writing() -> Result<(), Fail> {
         (0, GARBAGE, Err(Refusal::TooShort), GARBAGE),
         (MOVES - 1, GARBAGE, Err(Refusal::TooShort), GARBAGE),
         (MOVES, GARBAGE, Err(Refusal::NoSuchState(99)), GARBAGE),
-        (MOVES, whole_move(0, 1), Err(Refusal::NoSuchState(1)), GARBAGE),
+        (
+            MOVES,
+            whole_move(0, 1),
+            Err(Refusal::NoSuchState(1)),
+            GARBAGE,
+        ),
         (MOVES, whole_move(0, 0), Ok(1), whole_move(0, 0)),
         (MOVES + 1, empty, Ok(1), empty),
     ] {
@@ -168,27 +184,31 @@ fn writing() -> Result<(), Fail> {
     Ok(())
 }
 
-// 1,024 moves are written, and the next is refused with 4.
-#[test]
-fn full_table() -> Result<(), Fail> {
-    let mut table = [GARBAGE; MOVES + 1];
+// How many of 1,025 moves were written, and how many refused with 4.
+fn fill(table: &mut [Move<MinuteRow>]) -> (usize, usize) {
     let mut clause = OpenClause::open(&Minutes);
     let mut refused = 0usize;
     for _ in 0..MOVES + 1 {
-        clause = match clause.write(&Minutes, &mut table, whole_move(0, 0)) {
+        clause = match clause.write(&Minutes, table, whole_move(0, 0)) {
             Ok(clause) => clause,
             Err(back) => {
-                if back.why.number() == 4 {
+                let Refused { value, why } = back;
+                if why.number() == 4 {
                     refused = refused.saturating_add(1);
                 }
-                back.value
+                value
             }
         };
     }
     let counts = clause.counts();
     clause.discard(&Minutes);
-    check_eq(counts.moves, MOVES)?;
-    check_eq(refused, 1)?;
+    (counts.moves, refused)
+}
+
+#[test]
+fn full_table() -> Result<(), Fail> {
+    let mut table = [GARBAGE; MOVES + 1];
+    check_eq(fill(&mut table), (MOVES, 1))?;
     check_eq(table[MOVES - 1], whole_move(0, 0))?;
     check_eq(table[MOVES], GARBAGE)
 }

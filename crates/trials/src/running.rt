@@ -2,6 +2,7 @@
 use guards::activity::ACTIVITY;
 use guards::activity::ActivityGuard;
 use guards::algebra::Algebra;
+use guards::flags::FlagsAlgebra;
 use guards::minutes::MinuteRow;
 use guards::minutes::Minutes;
 use guards::minutes::MinutesAlgebra;
