@@ -11,8 +11,24 @@ pub use algebra::FlagsAlgebra;
 // The largest number of five bits.
 pub const LAST_FLAGS: u8 = 31;
 
-// The bits by weight, highest first: slot, crew, card, and the two of the activity.
-pub const WEIGHTS: [u8; 5] = [16, 8, 4, 2, 1];
+// The bits of the slot, the crew and the card; the two below them are the activity.
+pub const SLOT: u8 = 16;
+
+pub const CREW: u8 = 8;
+
+pub const CARD: u8 = 4;
+
+// What a driver does, by the two lowest bits of an entry.
+#[derive(Clone, Copy, PartialEq, Eq, Debug)]
+pub enum Activity {
+    Rest = 0,
+    Availability = 1,
+    Work = 2,
+    Driving = 3,
+}
+
+// All five bits by weight, highest first.
+pub const WEIGHTS: [u8; 5] = [SLOT, CREW, CARD, 2, 1];
 
 // A guard on flags as it lies in a table: any two numbers. Numbers that make no guard read as the empty guard.
 #[derive(Clone, Copy, PartialEq, Eq, Debug)]

@@ -6,5 +6,5 @@ use Rattle.guards.specs.Bits.{has}
 use Rattle.machines.specs.Limits.{most-states}
 use Rattle.machines.specs.declared.endings.Endings.{Endings}
 
-unfoldable pub holds : Endings → ℕ → Bool
+abbrev pub holds : Endings → ℕ → Bool
 holds e k = ltb k most-states && has (e .mask) (2 ^ k)

@@ -40,9 +40,13 @@ walk step place q [] = Ok q
 walk step place q (e ∷ es) = onward (step q e) place (λ r. walk step (place + 1) r es)
 
 module _ {E G : Type 0} (alg : Model E G) where
-  -- where the first move in table order that goes from p and admits the entry leads
+  -- the move goes from p and admits the entry
+  abbrev pub taken-by : ℕ → E → Move G → Bool
+  taken-by p e v = eqb (v .from) p && alg .admits (v .guard) e
+
+  -- where the first such move in table order leads
   abbrev pub next : List (Move G) → ℕ → E → Option ℕ
-  next moves p e = first-found (λ v. eqb (v .from) p && alg .admits (v .guard) e) (λ v. v .to) moves
+  next moves p e = first-found (taken-by p e) (λ v. v .to) moves
 
   -- a state without a next state stays
   abbrev pub automaton : Machine G → Automaton E

@@ -12,6 +12,14 @@ pub struct Endings {
     mask: u64,
 }
 
+// The number whose one bit is the state's.
+fn bit(state: usize) -> u64
+    requires { ⌜ state < 64 ⌝ }
+    ensures { λ r. ⌜ r ≡ 2 ^ state ⌝ }
+{
+    1 << state
+}
+
 // The number whose bits are those below the count.
 fn ones(count: usize) -> u64
     requires { ⌜ count ≤ 64 ⌝ }
@@ -36,7 +44,7 @@ impl Endings {
     pub fn contains(self, state: usize) -> bool
         ensures { λ r. ⌜ r ≡ holds self state ⌝ }
     {
-        state < STATES && self.mask & 1 << state != 0
+        state < STATES && self.mask & bit(state) != 0
     }
 
     // The set with that state too.
@@ -45,7 +53,7 @@ impl Endings {
         ensures { λ r. ⌜ ((k : ℕ) → holds r k ≡ (holds self k || eqb k state)) ⌝ }
     {
         Endings {
-            mask: self.mask | 1 << state,
+            mask: self.mask | bit(state),
         }
     }
 

@@ -1,5 +1,7 @@
 // Examples that are run: tables of questions to the libraries, with their answers.
 #[cfg(test)]
+mod clauses;
+#[cfg(test)]
 mod flags;
 #[cfg(test)]
 mod minutes;
@@ -7,3 +9,5 @@ mod minutes;
 mod pairs;
 #[cfg(test)]
 mod records;
+#[cfg(test)]
+mod running;

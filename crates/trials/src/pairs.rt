@@ -4,6 +4,7 @@ use guards::activity::ActivityGuard;
 use guards::activity::entry_of_word;
 use guards::algebra::Algebra;
 use guards::cases::worked_cases;
+use guards::flags::Activity;
 use guards::flags::FlagRow;
 use guards::flags::FlagRowDebug;
 use guards::flags::FlagRowPartialEq;
@@ -26,7 +27,10 @@ use guards::pair::Pair;
 use guards::pair::PairAlgebra;
 use std::test::*;
 
-const DRIVING: FlagRow = FlagRow { care: 3, value: 3 };
+const DRIVING: FlagRow = FlagRow {
+    care: 3,
+    value: Activity::Driving as u8,
+};
 
 const ANY_FLAGS: FlagRow = FlagRow { care: 0, value: 0 };
 
@@ -49,7 +53,10 @@ const fn both(first: FlagRow, second: MinuteRow) -> ActivityGuard {
 #[test]
 fn rests() -> Result<(), Fail> {
     let resting = FlagRow { care: 2, value: 0 };
-    let working = FlagRow { care: 3, value: 2 };
+    let working = FlagRow {
+        care: 3,
+        value: Activity::Work as u8,
+    };
     let whole = ACTIVITY.whole();
     for (a, b, parts) in [
         (

@@ -2,23 +2,37 @@
 ghost use mathlib.Core.Path.{_≡_};
 ghost use Rattle.guards.specs.Lists.{any};
 ghost use Rattle.machines.specs.Refusals.{said};
-ghost use Rattle.machines.specs.Running.{next, walk, stray, ran, RunMeaning};
+ghost use Rattle.machines.specs.Running.{taken-by, next, walk, stray, ran, RunMeaning};
 use super::Rule;
 use crate::limits::MOVES;
 use crate::moves::Move;
 use crate::refusals::Refusal;
 use guards::algebra::Algebra;
 
+// Whether the move names a state that is not below the count.
+fn is_stray<G>(line: &Move<G>, states: usize) -> bool
+    ensures { λ r. ⌜ r ≡ stray states (now (line .entry)) ⌝ }
+{
+    line.from >= states || line.to >= states
+}
+
 // Whether a move names a state that is not below the count.
 fn has_stray<G>(moves: &[Move<G>], states: usize) -> bool
     ensures { λ r. ⌜ r ≡ any (stray states) (now (moves .entry)) ⌝ }
 {
     for line in moves {
-        if (line.from >= states) | (line.to >= states) {
+        if is_stray(line, states) {
             return true;
         }
     }
     false
+}
+
+// Whether the move goes from the state and admits the entry.
+fn takes<A: Algebra>(alg: &A, line: &Move<A::Guard>, state: usize, e: A::Entry) -> bool
+    ensures { λ r. ⌜ r ≡ taken-by (model (now (alg .entry))) state e (now (line .entry)) ⌝ }
+{
+    line.from == state && alg.admits(line.guard, e)
 }
 
 // Where the first move leads that goes from the state and admits the entry.
@@ -31,7 +45,7 @@ fn next_state<A: Algebra>(
     ensures { λ r. ⌜ r ≡ next (model (now (alg .entry))) (now (moves .entry)) state e ⌝ }
 {
     for line in moves {
-        if (line.from == state) & alg.admits(line.guard, e) {
+        if takes(alg, line, state, e) {
             return Some(line.to);
         }
     }

@@ -1,22 +1,18 @@
-use mathlib.Core.Bool.{_&&_}
-use mathlib.Core.Path.{sym, ap, _∙_}
-use lib.Dec.{eqb}
+use mathlib.Core.Path.{sym, _∙_}
+use Rattle.machines.specs.Running.{taken-by}
 use Rattle.machines.proofs.Loops.{found-hit, found-more, found-none}
 use Rattle.machines.proofs.clauses.running.next_state.Needs as need
 
-pub returns-then-line-state : need.returns-then-line-state
-returns-then-line-state g c =
-    found-hit (λ v. eqb (v .from) (c .args .state) && g .A·Algebra .model (c .args .alg .now) .admits (v .guard) (c .args .e)) (λ v. v .to)
-    (c .args .moves .now) (c .loop-line .line-index) _ (c .loop-line .inv) (c .line-item .result) (c .loop-line-test .taken) (c .line-item .is)
-    (ap (λ t. eqb (c .line-item .result .from) (c .args .state) && t) (sym (c .admits .ensures)) ∙ c .if-line-state .taken)
+pub returns-then-takes : need.returns-then-takes
+returns-then-takes g c =
+    found-hit (taken-by (g .A·Algebra .model (c .args .alg .now)) (c .args .state) (c .args .e)) (λ v. v .to) (c .args .moves .now) (c .loop-line .line-index) _ (c .loop-line .inv)
+    (c .line-item .result) (c .loop-line-test .taken) (c .line-item .is) (sym (c .if-takes .ensures tt))
 
 pub loop-line-again : need.loop-line-again
 loop-line-again g c =
-    found-more (λ v. eqb (v .from) (c .args .state) && g .A·Algebra .model (c .args .alg .now) .admits (v .guard) (c .args .e)) (λ v. v .to)
-    (c .args .moves .now) (c .loop-line .line-index) _ (c .loop-line .inv) (c .line-item .result) (c .loop-line-test .taken) (c .line-item .is)
-    (ap (λ t. eqb (c .line-item .result .from) (c .args .state) && t) (sym (c .admits .ensures)) ∙ c .if-line-state .left)
+    found-more (taken-by (g .A·Algebra .model (c .args .alg .now)) (c .args .state) (c .args .e)) (λ v. v .to) (c .args .moves .now) (c .loop-line .line-index) _ (c .loop-line .inv)
+    (c .line-item .result) (c .loop-line-test .taken) (c .line-item .is) (sym (c .if-takes .ensures tt))
 
 pub returns : need.returns
 returns g c =
-    found-none (λ v. eqb (v .from) (c .args .state) && g .A·Algebra .model (c .args .alg .now) .admits (v .guard) (c .args .e)) (λ v. v .to)
-    (c .args .moves .now) (c .loop-line .line-index) _ (c .loop-line .inv) (c .loop-line-test .left)
+    found-none (taken-by (g .A·Algebra .model (c .args .alg .now)) (c .args .state) (c .args .e)) (λ v. v .to) (c .args .moves .now) (c .loop-line .line-index) _ (c .loop-line .inv) (c .loop-line-test .left)

@@ -4,12 +4,10 @@ use Prim.Native.Nat.{_^_}
 use lib.Bits.{bitXor}
 use lib.Dec.{ltb}
 use Rattle.guards.specs.Bits.{has}
-use Rattle.machines.specs.Endings.{holds}
 use Rattle.machines.proofs.EndingBits.{complement-holds}
 use Rattle.machines.proofs.endings.Endings.complement.Needs as need
 
 pub returns : need.returns
-unfolding holds
 returns c k =
     ap (λ m. ltb k 64 && has (bitXor (c .args .self .mask) m) (2 ^ k)) (c .ones .ensures)
     ∙ complement-holds 64 (c .args .self .mask) (c .args .count) k (c .pre)

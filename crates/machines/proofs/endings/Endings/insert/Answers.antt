@@ -3,14 +3,11 @@ use mathlib.Core.Path.{ap, _∙_}
 use Prim.Native.Nat.{_^_}
 use lib.Bits.{bitOr}
 use lib.Dec.{ltb}
-use Rattle.std.proofs.shelf.Bits.{one-shl}
 use Rattle.guards.specs.Bits.{has}
-use Rattle.machines.specs.Endings.{holds}
 use Rattle.machines.proofs.EndingBits.{insert-holds}
 use Rattle.machines.proofs.endings.Endings.insert.Needs as need
 
 pub returns : need.returns
-unfolding holds
 returns c k =
-    ap (λ w. ltb k 64 && has (bitOr (c .args .self .mask) w) (2 ^ k)) (one-shl (c .args .state) 64 (c .pre))
+    ap (λ w. ltb k 64 && has (bitOr (c .args .self .mask) w) (2 ^ k)) (c .bit .ensures)
     ∙ insert-holds 64 (c .args .self .mask) (c .args .state) k (c .pre)
