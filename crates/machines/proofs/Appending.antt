@@ -1,24 +1,35 @@
 -- Loops that append to a buffer what each element of a list gives.
-use mathlib.Core.Path.{_≡_, refl, sym, ap, _∙_}
+use mathlib.Core.Path.{_≡_, refl, sym, ap, subst, _∙_}
 use mathlib.Core.List.{List, [], _∷_, _++_}
 use Prim.Native.Nat.{ℕ, zero, suc, _+_, _<_, _≤_}
 use native.Mathlib.Omega.{arith}
 use native.Mathlib.Numerals.{add-one}
 use lib.ListN.{length, getD, take, drop, length-append}
+use Rattle.std.specs.declared.option.Option.{Option}
 use Rattle.std.specs.declared.option.Option.the-variants.{Some, None}
 use Rattle.std.specs.shelf.Lists.{joined}
 use Rattle.std.specs.shelf.Maps.{nth}
-use Rattle.std.proofs.shelf.Lists.{append-assoc, take-more, take-all, take-append-drop, joined-more}
+use Rattle.machines.specs.Filled.{Filled}
+use Rattle.std.proofs.shelf.Lists.{append-assoc, length-take-le, take-more, take-all, take-append-drop, joined-more}
 
 pub joined-append : {X Y : Type 0} (f : X → List Y) (xs ys : List X) → joined f (xs ++ ys) ≡ joined f xs ++ joined f ys
 joined-append f [] ys = refl
 joined-append f (x ∷ xs) ys = ap (λ zs. f x ++ zs) (joined-append f xs ys) ∙ sym (append-assoc (f x) (joined f xs) (joined f ys))
 
+-- a list without room is not built
+pub no-room : {X : Type 0} (wanted buffer : List X) (r : Option ℕ) → r ≡ None → length buffer < length wanted → Filled wanted buffer r
+no-room wanted buffer r is short = subst (λ o. Filled wanted buffer o) (sym is) short
+
+-- the front after one push is one longer
+pub pushed-length : {X : Type 0} (before after : List X) (n m : ℕ) (x : X) → n ≤ length before → m ≤ length after → take m after ≡ take n before ++ (x ∷ []) → m ≡ n + 1
+pushed-length before after n m x hn hm e =
+    omega (arith, ap length e, length-take-le m after hm, length-take-le n before hn, length-append (take n before) (x ∷ []))
+
 -- one element more of a list of parts
 pub nth-more : {X : Type 0} (xs : List X) (k : ℕ) (x : X) → nth xs k ≡ Some x → take (k + 1) xs ≡ take k xs ++ (x ∷ [])
 nth-more [] k x h = let z : _≡_ {A = ℕ} 0 1 = cc in absurd (omega arith)
 nth-more (y ∷ ys) zero x h = let e : y ≡ x = cc in ap (λ z. z ∷ []) e
-nth-more (y ∷ ys) (suc k) x h = ?
+nth-more (y ∷ ys) (suc k) x h = rw add-one (ap (λ zs. y ∷ zs) (rw add-one at (nth-more ys k x h)))
 
 -- at the element x, which stands at place i: the buffer's front is what came before the loop and what the elements before i gave
 module _ {X Y : Type 0} (f : X → List Y) (front : List Y) (xs : List X) (i : ℕ) (built : List Y) (inv : built ≡ front ++ joined f (take i xs)) where
