@@ -9,6 +9,7 @@ use Rattle.std.specs.declared.option.Option.{Option}
 use Rattle.std.specs.declared.option.Option.the-variants.{Some, None}
 use Rattle.std.specs.shelf.Lists.{joined}
 use Rattle.std.specs.shelf.Maps.{nth}
+use lib.Seq.{take-append-le}
 use Rattle.machines.specs.Filled.{Filled}
 use Rattle.std.proofs.shelf.Lists.{append-assoc, length-take-le, take-more, take-all, take-append-drop, joined-more}
 
@@ -24,6 +25,13 @@ no-room wanted buffer r is short = subst (λ o. Filled wanted buffer o) (sym is)
 pub pushed-length : {X : Type 0} (before after : List X) (n m : ℕ) (x : X) → n ≤ length before → m ≤ length after → take m after ≡ take n before ++ (x ∷ []) → m ≡ n + 1
 pushed-length before after n m x hn hm e =
     omega (arith, ap length e, length-take-le m after hm, length-take-le n before hn, length-append (take n before) (x ∷ []))
+
+-- the front of a copy is the front that was copied
+pub copied-front : {X : Type 0} (from rest : List X) (n : ℕ) → n ≤ length from → take n (take n from ++ rest) ≡ take n from
+copied-front from rest n h =
+    let all = length-take-le n from h in
+    let le : n ≤ length (take n from) = omega arith in
+    take-append-le n (take n from) rest le ∙ take-all n (take n from) (omega arith)
 
 -- one element more of a list of parts
 pub nth-more : {X : Type 0} (xs : List X) (k : ℕ) (x : X) → nth xs k ≡ Some x → take (k + 1) xs ≡ take k xs ++ (x ∷ [])

@@ -3,6 +3,7 @@ pub mod Automata
 pub mod EndingBits
 pub mod Loops
 pub mod MachineRuns
+pub mod RestLoop
 pub mod RunMeanings
 pub mod Members
 pub mod Searching

@@ -1,10 +1,12 @@
 -- Checking: the machine that a check makes of a clause as written, and when it refuses.
-use mathlib.Core.Bool.{Bool, false, _&&_, cond}
+use mathlib.Core.Path.{_≡_}
+use mathlib.Core.Bool.{Bool, true, false, _&&_, cond}
 use mathlib.Core.List.{List, [], _∷_, _++_, map}
-use Prim.Native.Nat.{ℕ, _+_, _<_}
+use Prim.Native.Nat.{ℕ, _+_, _<_, _≤_}
 use lib.Dec.{leb, eqb}
-use lib.ListN.{length, getD}
-use Rattle.std.specs.Options.{isSome}
+use lib.ListN.{length, getD, take}
+use Rattle.std.specs.Options.{isSome, Cases}
+use Rattle.std.specs.declared.option.Option.{Option}
 use Rattle.std.specs.shelf.Lists.{kept-by, joined}
 use Rattle.guards.specs.Algebra.{Model}
 use Rattle.guards.specs.Lists.{any, every, is-some}
@@ -28,10 +30,23 @@ module _ {E G : Type 0} (alg : Model E G) where
   rest-fits gs [] = leb (length gs) most-parts
   rest-fits gs (v ∷ vs) = leb (length gs) most-parts && rest-fits (without (v .guard) gs) vs
 
+  -- the list holds the rest that the moves leave of the whole guard, or it had no room at some stage
+  abbrev pub RestFilled : List (Move G) → List G → Option ℕ → Type 0
+  RestFilled vs list r =
+      Cases r (rest-fits (alg .whole ∷ []) vs ≡ false) (λ n. (rest-fits (alg .whole ∷ []) vs ≡ true) × (n ≤ length list) × (take n list ≡ rest-of (alg .whole ∷ []) vs))
+
+  -- the move goes from p and admits something
+  abbrev pub is-live : ℕ → Move G → Bool
+  is-live p v = eqb (v .from) p && isSome (alg .sample (v .guard))
+
+  -- the guards without the move's, if that is live
+  abbrev pub narrowed : ℕ → Move G → List G → List G
+  narrowed p v gs = cond (is-live p v) (without (v .guard) gs) gs
+
 module _ {E G : Type 0} (alg : Model E G) (M : Machine G) where
-  -- the moves from p whose guard admits something, in table order
+  -- the live moves from p, in table order
   abbrev pub live : ℕ → List (Move G)
-  live p = kept-by (λ v. eqb (v .from) p && isSome (alg .sample (v .guard))) (M .moves)
+  live p = kept-by (is-live alg p) (M .moves)
 
   abbrev pub successors : ℕ → List ℕ
   successors p = map (λ v. v .to) (live p)
