@@ -1,7 +1,10 @@
 pub mod Automata
 pub mod EndingBits
+pub mod FirstSome
 pub mod Loops
+pub mod LowestClash
 pub mod MachineRuns
+pub mod Rests
 pub mod RunMeanings
 pub mod Members
 pub mod Searching
