@@ -5,6 +5,7 @@ pub mod Loops
 pub mod LowestClash
 pub mod MachineRuns
 pub mod Rests
+pub mod Numbered
 pub mod RunMeanings
 pub mod Members
 pub mod Searching
