@@ -1,9 +1,9 @@
 -- The lowest clash of a list of moves is the lowest, and moves without a clash are deterministic.
-use mathlib.Core.Path.{_≡_, refl, sym, ap, subst, _∙_}
+use mathlib.Core.Path.{_≡_, sym, ap, subst, _∙_}
 use mathlib.Core.Bool.{true}
 use mathlib.Core.List.{List}
-use mathlib.Core.Logic.{_⊎_, inl, inr}
-use Prim.Native.Nat.{ℕ, _+_, _<_, _≤_}
+use mathlib.Core.Logic.{inl, inr}
+use Prim.Native.Nat.{ℕ, _+_, _<_}
 use native.Mathlib.Omega.{arith}
 use lib.ListN.{drop}
 use Rattle.std.specs.Options.{mapped}
@@ -12,13 +12,14 @@ use Rattle.std.specs.declared.option.Option.{Option}
 use Rattle.std.specs.declared.option.Option.the-variants.{Some, None}
 use Rattle.std.proofs.iter.Pieces.{each-way}
 use Rattle.std.proofs.shelf.Results.{cases-at-some, cases-at-none}
-use Rattle.std.proofs.shelf.Tests.{cases-eq, cases-order, cases-lt, both-ways, and-parts, and-from, eq-eqb, ne-eqb, not-from-false, cond-true}
+use Rattle.std.proofs.shelf.Tests.{cases-eq, cases-order, cases-lt, and-parts, and-from, eq-eqb, ne-eqb, not-from-false, cond-true}
 use Rattle.guards.specs.Algebra.{Model, Laws}
 use Rattle.machines.specs.Clashes.{clash, second-clash, lowest-clash, ClashAt, Lowest}
 use Rattle.machines.specs.Machine.{Machine, Deterministic}
 use Rattle.machines.specs.declared.moves.Move.{Move}
 use Rattle.machines.proofs.FirstSome.{mapped-some, mapped-none, NoAnswer, FirstAnswer, first-some-is}
-use Rattle.machines.proofs.Members.{member-place}
+use Rattle.machines.proofs.Places.{member-place}
+use Rattle.machines.proofs.Samples.{sampled}
 
 module _ {E G : Type 0} (alg : Model E G) (moves : List (Move G)) where
   abbrev ask-second : Move G → ℕ → Move G → Option (ℕ × E)
@@ -38,15 +39,12 @@ module _ {E G : Type 0} (alg : Model E G) (moves : List (Move G)) where
       let z : _≡_ {A = ℕ} 0 1 = cc in
       omega arith
 
-  abbrev Low : ℕ × ℕ × E → Type 0
-  Low p = ClashAt alg moves (p .0) (p .1) (p .2) × ((i j : ℕ) (e : E) → ClashAt alg moves i j e → (p .0 < i) ⊎ ((p .0 ≡ i) × (p .1 ≤ j)))
-
   -- the first move that finds a later one, and the first that it finds
   low-at : (i : ℕ) (u : Move G) → nth moves i ≡ Some u → ((k : ℕ) (v : Move G) → k < i → nth moves k ≡ Some v → ask-first k v ≡ None) →
-      (q : ℕ × E) → FirstAnswer (ask-second u) moves (i + 1) q → Low (i, q .0, q .1)
+      (q : ℕ × E) → FirstAnswer (ask-second u) moves (i + 1) q → Lowest alg moves (Some (i, q .0, q .1))
   low-at i u at before q s =
       let b = mapped-some (λ e. (s .place, e)) (clash alg u (s .element)) q (s .answer) in
-      subst (λ (r : ℕ × E). Low (i, r .0, r .1)) (b .2) (
+      subst (λ (r : ℕ × E). Lowest alg moves (Some (i, r .0, r .1))) (b .2) (
         record { first = u; second = s .element; first-at = at; second-at = s .read; ordered = omega (arith, s .from); sample = b .1 },
         λ k j e c. elim (cases-order i k) [
           | inr (inl lt) ↦ inl lt
@@ -62,29 +60,25 @@ module _ {E G : Type 0} (alg : Model E G) (moves : List (Move G)) where
           let z : _≡_ {A = ℕ} 0 1 = cc in
           omega arith
 
-  low : (p : ℕ × ℕ × E) → FirstAnswer ask-first moves 0 p → Low p
+  low : (p : ℕ × ℕ × E) → FirstAnswer ask-first moves 0 p → Lowest alg moves (Some p)
   low p f =
       let i = f .place in
       let u = f .element in
       let a = mapped-some (λ q. (i, q .0, q .1)) (second-clash alg u (i + 1) (drop (i + 1) moves)) p (f .answer) in
       let s = cases-at-some (NoAnswer (ask-second u) moves (i + 1)) (FirstAnswer (ask-second u) moves (i + 1)) (a .0) (a .1) (first-some-is (ask-second u) moves (i + 1)) in
-      subst Low (a .2) (low-at i u (f .read) (λ k v lt. f .before k v (omega arith) lt) (a .0) s)
+      subst (λ (r : ℕ × ℕ × E). Lowest alg moves (Some r)) (a .2) (low-at i u (f .read) (λ k v lt. f .before k v (omega arith) lt) (a .0) s)
 
   pub lowest-clash-is : Lowest alg moves (lowest-clash alg moves)
   lowest-clash-is =
-      each-way (lowest-clash alg moves) (NoAnswer ask-first moves 0) ((i j : ℕ) (e : E) → ClashAt alg moves i j e → ⊥) (FirstAnswer ask-first moves 0) Low
+      each-way (lowest-clash alg moves) (NoAnswer ask-first moves 0) (Lowest alg moves None) (FirstAnswer ask-first moves 0) (λ p. Lowest alg moves (Some p))
       (λ none i j e c. no-second i (λ u. none i u (omega arith)) j e c) low (first-some-is ask-first moves 0)
 
 module _ {E G : Type 0} (alg : Model E G) (laws : Laws alg) (M : Machine G) where
   clashes : (u v : Move G) → u .from ≡ v .from → (u .to ≡ v .to → ⊥) → (e : E) → alg .admits (u .guard) e ≡ true → alg .admits (v .guard) e ≡ true → (s : E) × (clash alg u v ≡ Some s)
-  clashes u v from apart e a b = by (alg .sample (alg .meet (u .guard) (v .guard))) refl
-    where
-      by : (o : Option E) → alg .sample (alg .meet (u .guard) (v .guard)) ≡ o → (s : E) × (clash alg u v ≡ Some s)
-      by None is = absurd (both-ways _ (laws .sample-none (alg .meet (u .guard) (v .guard)) is e) (laws .meet-admits (u .guard) (v .guard) e ∙ and-from _ _ a b))
-      by (Some s) is = (
-        s,
-        cond-true _ (alg .sample (alg .meet (u .guard) (v .guard))) None (and-from _ _ (eq-eqb (u .from) (v .from) from) (not-from-false _ (ne-eqb (u .to) (v .to) apart))) ∙ is,
-      )
+  clashes u v from apart e a b =
+      let meet = alg .meet (u .guard) (v .guard) in
+      let s = sampled alg laws meet e (laws .meet-admits (u .guard) (v .guard) e ∙ and-from _ _ a b) in
+      (s .0, cond-true _ (alg .sample meet) None (and-from _ _ (eq-eqb (u .from) (v .from) from) (not-from-false _ (ne-eqb (u .to) (v .to) apart))) ∙ s .1)
 
   pub no-clash-deterministic : lowest-clash alg (M .moves) ≡ None → Deterministic alg M
   no-clash-deterministic none u v mu mv from e both = elim (cases-eq (u .to) (v .to)) [
@@ -102,5 +96,5 @@ module _ {E G : Type 0} (alg : Model E G) (laws : Laws alg) (M : Machine G) wher
     where
       never : (i j : ℕ) (u v : Move G) → nth (M .moves) i ≡ Some u → nth (M .moves) j ≡ Some v → i < j → (s : E) × (clash alg u v ≡ Some s) → ⊥
       never i j u v at bt lt c =
-          cases-at-none ((i j : ℕ) (e : E) → ClashAt alg (M .moves) i j e → ⊥) (Low alg (M .moves)) none (lowest-clash-is alg (M .moves)) i j (c .0)
+          cases-at-none (Lowest alg (M .moves) None) (λ p. Lowest alg (M .moves) (Some p)) none (lowest-clash-is alg (M .moves)) i j (c .0)
           (record { first = u; second = v; first-at = at; second-at = bt; ordered = lt; sample = c .1 })

@@ -6,13 +6,11 @@ use mathlib.Core.Logic.{_⊎_, inl, inr}
 use Prim.Native.Nat.{ℕ, zero, suc, _+_, _≤_, _<_}
 use native.Mathlib.Omega.{arith}
 use lib.Dec.{ltb}
-use lib.ListN.{length, getD}
+use lib.ListN.{length}
 use Rattle.std.specs.shelf.Lists.{kept-by, joined, countBy}
-use Rattle.std.specs.shelf.Maps.{nth}
-use Rattle.std.specs.declared.option.Option.the-variants.{Some}
 use Rattle.std.proofs.shelf.Lists.{length-map}
 use Rattle.std.proofs.shelf.Tests.{cases-eq, or-cases, or-left, or-right, and-parts, and-from, and-cases, both-ways, true≢false, false≢true, or-from, lt-ltb}
-use Rattle.guards.specs.Lists.{Member, any, every}
+use Rattle.guards.specs.Lists.{Member, any, every, is-some}
 use Rattle.guards.proofs.Counting.{count-cons}
 use Rattle.machines.specs.Search.{NoRepeat}
 
@@ -31,15 +29,13 @@ module _ {X : Type 0} where
   member-cases x (y ∷ xs) ys (inl e) = inl (inl e)
   member-cases x (y ∷ xs) ys (inr m) = elim (member-cases x xs ys m) [ inl a ↦ inl (inr a) | inr b ↦ inr b ]
 
-  pub member-place : (x : X) (xs : List X) → Member x xs → (k : ℕ) × (nth xs k ≡ Some x)
-  member-place x [] m = absurd m
-  member-place x (y ∷ xs) (inl e) = (0, ap Some e)
-  member-place x (y ∷ xs) (inr m) = let r = member-place x xs m in (suc (r .0), r .1)
+  pub member-some : (x : X) (xs : List X) → Member x xs → is-some xs ≡ true
+  member-some x [] m = absurd m
+  member-some x (y ∷ xs) m = refl
 
-  pub member-getD : (xs : List X) (i : ℕ) (d : X) → i < length xs → Member (getD xs i d) xs
-  member-getD [] i d h = absurd (omega arith)
-  member-getD (x ∷ xs) zero d h = inl refl
-  member-getD (x ∷ xs) (suc i) d h = inr (member-getD xs i d (omega arith))
+  pub some-member : (xs : List X) → is-some xs ≡ true → (x : X) × Member x xs
+  some-member [] h = absurd (false≢true h)
+  some-member (x ∷ xs) h = (x, inl refl)
 
   pub no-repeat-push : (xs : List X) (y : X) → NoRepeat xs → (Member y xs → ⊥) → NoRepeat (xs ++ (y ∷ []))
   no-repeat-push [] y n new = (λ m. m, tt)

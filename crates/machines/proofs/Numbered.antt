@@ -1,15 +1,14 @@
 -- Machines whose states are numbered nodes: what makes one proper, and its runs, which are those of a step function on nodes.
 use mathlib.Core.Path.{_≡_, refl, sym, ap, subst, _∙_}
-use mathlib.Core.Bool.{Bool, true, false, cond}
+use mathlib.Core.Bool.{Bool, true}
 use mathlib.Core.List.{List, [], _∷_, _++_}
-use mathlib.Core.Logic.{inl, inr}
-use Prim.Native.Nat.{ℕ, zero, suc, _<_}
+use Prim.Native.Nat.{ℕ, _<_}
 use native.Mathlib.Omega.{arith}
 use lib.ListN.{length, getD}
 use Rattle.std.specs.Orderings.{Decides}
 use Rattle.std.specs.shelf.Lists.{joined}
 use Rattle.std.proofs.shelf.Elements.{all-push}
-use Rattle.std.proofs.shelf.Tests.{cases-bool, both-ways, cond-true, cond-false, and-parts}
+use Rattle.std.proofs.shelf.Tests.{and-parts}
 use Rattle.guards.specs.Algebra.{Model, Laws}
 use Rattle.guards.specs.Lists.{Member}
 use Rattle.machines.specs.Automaton.{run, InDomain}
@@ -19,62 +18,31 @@ use Rattle.machines.specs.Search.Reaches.{itself, after}
 use Rattle.machines.specs.declared.moves.Move.{Move}
 use Rattle.machines.proofs.Automata.{run-append}
 use Rattle.machines.proofs.MachineRuns.{run-only}
-use Rattle.machines.proofs.Members.{member-getD, joined-member, member-joined}
+use Rattle.machines.proofs.Members.{joined-member, member-joined}
+use Rattle.machines.proofs.Places.{member-getD, place-at, place-own, at-place}
 
--- the place of a node
-module _ {X : Type 0} (same : X → X → Bool) (tells : Tells same) where
-  pub place-at : (x d : X) (xs : List X) → Member x xs → (place-of same x xs < length xs) × (getD xs (place-of same x xs) d ≡ x)
-  place-at x d [] m = absurd m
-  place-at x d (y ∷ xs) m =
-      (elim (same x y) as (λ b. same x y ≡ b → (cond b 0 (suc (place-of same x xs)) < length (y ∷ xs)) × (getD (y ∷ xs) (cond b 0 (suc (place-of same x xs))) d ≡ x)) [
-        | true ↦ λ t. (omega arith, sym (tells .equal x y t))
-        | false ↦ λ f. elim m [
-          | inl e ↦ absurd (both-ways (same x y) f (ap (same x) e ∙ tells .itself x))
-          | inr n ↦ let r = place-at x d xs n in (omega (arith, r .0), r .1)
-        ]
-      ]) refl
+-- the move goes from the node x, admits something, and leads where the step does
+pub record MoveOf {E G X : Type 0} (alg : Model E G) (Node : X → Type 0) (number : X → ℕ) (step : X → E → X) (x : X) (v : Move G) : Type 0 where
+  pub from : v .from ≡ number x
+  pub to : (e : E) → alg .admits (v .guard) e ≡ true → Node (step x e) × (v .to ≡ number (step x e))
+  pub live : (e : E) × (alg .admits (v .guard) e ≡ true)
 
-  pub place-own : (x y : X) (xs : List X) → Member x xs → Member y xs → place-of same x xs ≡ place-of same y xs → x ≡ y
-  place-own x y xs m n e = sym (place-at x x xs m .1) ∙ ap (λ i. getD xs i x) e ∙ place-at y x xs n .1
-
-  pub at-place : (xs : List X) (i : ℕ) (d : X) → NoRepeat xs → i < length xs → place-of same (getD xs i d) xs ≡ i
-  at-place [] i d n h = absurd (omega arith)
-  at-place (x ∷ xs) zero d n h = cond-true (same x x) 0 (suc (place-of same x xs)) (tells .itself x)
-  at-place (x ∷ xs) (suc i) d n h =
-      let y = getD xs i d in
-      let m : Member y xs = member-getD xs i d (omega arith) in
-      elim (cases-bool (same y x)) [
-        | inl t ↦ absurd (n .0 (subst (λ (v : X). Member v xs) (tells .equal y x t) m))
-        | inr f ↦ cond-false (same y x) 0 (suc (place-of same y xs)) f ∙ ap suc (at-place xs i d (n .1) (omega arith))
-      ]
-
-  pub first-place : (x : X) (xs rest : List X) → xs ≡ x ∷ rest → place-of same x xs ≡ 0
-  first-place x xs rest e = ap (place-of same x) e ∙ cond-true (same x x) 0 (suc (place-of same x rest)) (tells .itself x)
-
--- the nodes of a machine N have numbers, each places moves, and `step` says where each entry leads
-module _ {E G X : Type 0} (alg : Model E G) (N : Machine G) (Node : X → Type 0) (number : X → ℕ) (placed : X → List (Move G)) (step : X → E → X) where
-  -- the move goes from x, admits something, and leads where the step does
-  pub record MoveOf (x : X) (v : Move G) : Type 0 where
-    pub from : v .from ≡ number x
-    pub to : (e : E) → alg .admits (v .guard) e ≡ true → Node (step x e) × (v .to ≡ number (step x e))
-    pub live : (e : E) × (alg .admits (v .guard) e ≡ true)
-
-  pub record Numbered : Type 0 where
-    pub inside : (x : X) → Node x → number x < N .count
-    pub own : (x y : X) → Node x → Node y → number x ≡ number y → x ≡ y
-    pub each : (q : ℕ) → q < N .count → (x : X) × Node x × (number x ≡ q)
-    pub out : (v : Move G) → Member v (N .moves) → (x : X) × Node x × Member v (placed x)
-    pub into : (x : X) (v : Move G) → Node x → Member v (placed x) → Member v (N .moves)
-    pub move-of : (x : X) (v : Move G) → Node x → Member v (placed x) → MoveOf x v
-    -- each node places a move for each domain entry
-    pub some : (x : X) (e : E) → Node x → alg .domain e ≡ true → (v : Move G) × Member v (placed x) × (alg .admits (v .guard) e ≡ true)
+-- the states of N are the numbers of nodes, and its moves those that the nodes place, one or more for each domain entry
+pub record Numbered {E G X : Type 0} (alg : Model E G) (N : Machine G) (Node : X → Type 0) (number : X → ℕ) (placed : X → List (Move G)) (step : X → E → X) : Type 0 where
+  pub inside : (x : X) → Node x → number x < N .count
+  pub own : (x y : X) → Node x → Node y → number x ≡ number y → x ≡ y
+  pub each : (q : ℕ) → q < N .count → (x : X) × Node x × (number x ≡ q)
+  pub out : (v : Move G) → Member v (N .moves) → (x : X) × Node x × Member v (placed x)
+  pub into : (x : X) (v : Move G) → Node x → Member v (placed x) → Member v (N .moves)
+  pub move-of : (x : X) (v : Move G) → Node x → Member v (placed x) → MoveOf alg Node number step x v
+  pub some : (x : X) (e : E) → Node x → alg .domain e ≡ true → (v : Move G) × Member v (placed x) × (alg .admits (v .guard) e ≡ true)
 
 -- the moves of the nodes of a list without repeats, in the list's order, between their places
 pub numbered-joined : {E G X : Type 0} (alg : Model E G) (same : X → X → Bool) → Tells same → (xs : List X) → NoRepeat xs → X → (endings : ℕ → Bool) (placed : X → List (Move G)) (step : X → E → X) →
     let Node : X → Type 0 = λ x. Member x xs in
     let number : X → ℕ = λ x. place-of same x xs in
     let N : Machine G = record { count = length xs; endings = endings; moves = joined placed xs } in
-    ((x : X) (v : Move G) → Node x → Member v (placed x) → MoveOf alg N Node number placed step x v) →
+    ((x : X) (v : Move G) → Node x → Member v (placed x) → MoveOf alg Node number step x v) →
     ((x : X) (e : E) → Node x → alg .domain e ≡ true → (v : Move G) × Member v (placed x) × (alg .admits (v .guard) e ≡ true)) →
     Numbered alg N Node number placed step
 numbered-joined alg same tells xs once d endings placed step move-of some = record {
@@ -87,7 +55,7 @@ numbered-joined alg same tells xs once d endings placed step move-of some = reco
   some = some;
 }
 
-module _ {E G X : Type 0} (alg : Model E G) (laws : Laws alg) (N : Machine G) (Node : X → Type 0) (number : X → ℕ) (placed : X → List (Move G)) (step : X → E → X)
+module _ {E G X : Type 0} (alg : Model E G) (laws : Laws alg) {N : Machine G} {Node : X → Type 0} {number : X → ℕ} {placed : X → List (Move G)} {step : X → E → X}
     (n : Numbered alg N Node number placed step) where
   -- on a domain entry a node's number leads to that of the step
   numbered-step : (x : X) (e : E) → Node x → alg .domain e ≡ true → Node (step x e) × Leads alg N (number x) e (number (step x e))
