@@ -5,10 +5,10 @@ use mathlib.Core.List.{List, [], _∷_}
 use mathlib.Core.Logic.{inl, inr}
 use Prim.Native.Nat.{ℕ, _+_, _<_}
 use lib.Dec.{eqb}
-use Rattle.std.proofs.shelf.Tests.{and-parts, and-from, both-ways, eq-eqb, eqb-true}
+use Rattle.std.proofs.shelf.Tests.{and-parts, and-from, both-ways, eq-eqb, eqb-true, cond-false}
 use Rattle.std.specs.Options.{valueOr}
 use Rattle.std.specs.Orderings.{Decides}
-use Rattle.std.specs.declared.option.Option.the-variants.{Some}
+use Rattle.std.specs.declared.option.Option.the-variants.{Some, None}
 use Rattle.std.specs.declared.result.Result.the-variants.{Ok}
 use Rattle.guards.specs.Algebra.{Model, Laws}
 use Rattle.guards.specs.Lists.{Member}
@@ -29,6 +29,12 @@ found-some {X} test get x (z ∷ xs) m t =
         | inr n ↦ let r = found-some test get x xs n t in (r .0, inr (r .1), r .2, r .3)
       ]
     ]) refl
+
+-- where none passes, none is found
+pub found-nothing : {X Y : Type 0} (test : X → Bool) (get : X → Y) (xs : List X) → ((x : X) → Member x xs → test x ≡ false) → first-found test get xs ≡ None
+found-nothing test get [] none = refl
+found-nothing test get (x ∷ xs) none =
+    cond-false (test x) (Some (get x)) (first-found test get xs) (none x (inl refl)) ∙ found-nothing test get xs (λ y m. none y (inr m))
 
 module _ {E G : Type 0} (alg : Model E G) (laws : Laws alg) (M : Machine G) where
   pub leads-once : Deterministic alg M → (p : ℕ) (e : E) (q r : ℕ) → Leads alg M p e q → Leads alg M p e r → q ≡ r

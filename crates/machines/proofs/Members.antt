@@ -1,15 +1,17 @@
 -- Members of lists, lists without repeats, and the pigeonhole.
 use mathlib.Core.Path.{_≡_, refl, sym, ap, subst, _∙_}
-use mathlib.Core.Bool.{Bool, true, false, cond}
+use mathlib.Core.Bool.{Bool, true, false, _||_, cond}
 use mathlib.Core.List.{List, [], _∷_, _++_, map}
 use mathlib.Core.Logic.{_⊎_, inl, inr}
-use Prim.Native.Nat.{ℕ, zero, suc, _≤_, _<_}
+use Prim.Native.Nat.{ℕ, zero, suc, _+_, _≤_, _<_}
 use native.Mathlib.Omega.{arith}
+use lib.Dec.{ltb}
 use lib.ListN.{length}
-use Rattle.std.specs.shelf.Lists.{kept-by, joined}
+use Rattle.std.specs.shelf.Lists.{kept-by, joined, countBy}
 use Rattle.std.proofs.shelf.Lists.{length-map}
-use Rattle.std.proofs.shelf.Tests.{cases-eq, or-cases, or-left, or-right, and-parts, and-from, and-cases, both-ways, true≢false, false≢true, or-from}
-use Rattle.guards.specs.Lists.{Member, any, every}
+use Rattle.std.proofs.shelf.Tests.{cases-eq, or-cases, or-left, or-right, and-parts, and-from, and-cases, both-ways, true≢false, false≢true, or-from, lt-ltb}
+use Rattle.guards.specs.Lists.{Member, any, every, is-some}
+use Rattle.guards.proofs.Counting.{count-cons}
 use Rattle.machines.specs.Search.{NoRepeat}
 
 module _ {X : Type 0} where
@@ -26,6 +28,14 @@ module _ {X : Type 0} where
   member-cases x [] ys m = inr m
   member-cases x (y ∷ xs) ys (inl e) = inl (inl e)
   member-cases x (y ∷ xs) ys (inr m) = elim (member-cases x xs ys m) [ inl a ↦ inl (inr a) | inr b ↦ inr b ]
+
+  pub member-some : (x : X) (xs : List X) → Member x xs → is-some xs ≡ true
+  member-some x [] m = absurd m
+  member-some x (y ∷ xs) m = refl
+
+  pub some-member : (xs : List X) → is-some xs ≡ true → (x : X) × Member x xs
+  some-member [] h = absurd (false≢true h)
+  some-member (x ∷ xs) h = (x, inl refl)
 
   pub no-repeat-push : (xs : List X) (y : X) → NoRepeat xs → (Member y xs → ⊥) → NoRepeat (xs ++ (y ∷ []))
   no-repeat-push [] y n new = (λ m. m, tt)
@@ -121,6 +131,14 @@ module _ {X : Type 0} (test : X → Bool) where
   some-any x [] m h = absurd m
   some-any x (y ∷ xs) (inl e) h = or-left (test y) (any test xs) (ap test e ∙ h)
   some-any x (y ∷ xs) (inr m) h = or-right (test y) (any test xs) (some-any x xs m h)
+
+  pub any-counted : (xs : List X) → any test xs ≡ ltb 0 (countBy test xs)
+  any-counted [] = refl
+  any-counted (x ∷ xs) =
+      rw (count-cons test x xs) (elim (test x) as (λ b. (b || any test xs) ≡ ltb 0 (cond b 1 0 + countBy test xs)) [
+        | true ↦ sym (lt-ltb 0 (1 + countBy test xs) (omega arith))
+        | false ↦ any-counted xs ∙ ap (ltb 0) (omega arith)
+      ])
 
   pub every-each : (x : X) (xs : List X) → every test xs ≡ true → Member x xs → test x ≡ true
   every-each x [] h m = absurd m
