@@ -16,4 +16,5 @@ pub mod RestMeanings
 pub mod RunMeanings
 pub mod Samples
 pub mod Searching
+pub mod Tracked
 pub mod Turned

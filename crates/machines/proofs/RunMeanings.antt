@@ -4,13 +4,13 @@ use mathlib.Core.Bool.{Bool, false, cond}
 use mathlib.Core.List.{List, []}
 use Prim.Native.Nat.{ℕ, _<_}
 use native.Mathlib.Omega.{arith}
-use lib.Dec.{ltb}
+use lib.Dec.{leb, ltb}
 use lib.ListN.{length}
 use Rattle.std.specs.Orderings.{Decides}
 use Rattle.std.specs.Results.{Cases}
 use Rattle.std.specs.declared.result.Result.{Result}
 use Rattle.std.specs.declared.result.Result.the-variants.{Ok, Err}
-use Rattle.std.proofs.shelf.Tests.{cond-false, le-ltb, lt-leb, or-from}
+use Rattle.std.proofs.shelf.Tests.{cond-false, le-ltb, leb-false, lt-leb, or-from, or-parts}
 use Rattle.guards.specs.Algebra.{Model, Laws}
 use Rattle.guards.specs.Lists.{any}
 use Rattle.machines.specs.Endings.{holds}
@@ -25,6 +25,12 @@ use Rattle.machines.specs.declared.moves.Move.{Move}
 use Rattle.machines.specs.declared.refusals.Refusal.{Refusal}
 use Rattle.machines.proofs.MachineRuns.{walk-day}
 use Rattle.machines.proofs.Members.{none-any}
+
+-- a move that does not stray is between states
+pub between : {G : Type 0} (states : ℕ) (v : Move G) → stray states v ≡ false → (v .from < states) × (v .to < states)
+between states v h =
+    let p = or-parts (leb states (v .from)) (leb states (v .to)) h in
+    (leb-false states (v .from) (p .0), leb-false states (v .to) (p .1))
 
 -- a machine in range has no stray move
 pub no-stray : {E G : Type 0} (alg : Model E G) (M : Machine G) → InRange alg M → any (stray (M .count)) (M .moves) ≡ false

@@ -9,5 +9,6 @@ pub mod Machine
 pub mod Refusals
 pub mod Running
 pub mod Search
+pub mod Tracking
 pub mod Turning
 pub mod Values

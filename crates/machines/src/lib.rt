@@ -5,5 +5,6 @@ pub mod endings;
 pub mod joins;
 pub mod limits;
 pub mod moves;
+mod reaching;
 pub mod refusals;
 mod rests;

@@ -65,7 +65,7 @@ fn narrow<A: Algebra>(
 }
 
 // Whether the move goes from the state and admits something.
-fn is_live<A: Algebra>(alg: &A, line: &Move<A::Guard>, state: usize) -> bool
+pub(crate) fn is_live<A: Algebra>(alg: &A, line: &Move<A::Guard>, state: usize) -> bool
     ensures { λ r. ⌜ r ≡ is-live (model (now (alg .entry))) state (now (line .entry)) ⌝ }
 {
     line.from == state && alg.sample(line.guard).is_some()
