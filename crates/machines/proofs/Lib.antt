@@ -18,3 +18,4 @@ pub mod Samples
 pub mod Searching
 pub mod Tracked
 pub mod Turned
+pub mod Visits

@@ -122,25 +122,6 @@ pub tracked-few : (states : ℕ) (marks queue : List ℕ) (count : ℕ) → Stat
 tracked-few states marks queue count tracks =
     omega (arith, pigeonhole (take count queue) (below states) (tracks .once) (λ x m. member-below x states (tracks .inside x m)), length-below states, length-take-le count queue (tracks .room))
 
--- one turn of the loop that queues what the live moves lead to
-module _ {E G : Type 0} (alg : Model E G) (p : ℕ) (moves : List (Move G)) (found : List ℕ) (i : ℕ) (answer : List ℕ) where
-  abbrev left : ℕ → List ℕ
-  left k = map (λ v. v .to) (kept-by (is-live alg p) (drop k moves))
-
-  pub queue-more : (inv : add-all eqb found (left i) ≡ answer) (v : Move G) → i < length moves → v ≡ getD moves i v → add-all eqb (cond (is-live alg p v) (add eqb found (v .to)) found) (left (i + 1)) ≡ answer
-  queue-more inv v lt read = go (is-live alg p v) ∙ sym (at-read-more (λ vs. add-all eqb found (map (λ v. v .to) (kept-by (is-live alg p) vs))) moves i v lt read) ∙ inv
-    where
-      go : (t : Bool) → add-all eqb (cond t (add eqb found (v .to)) found) (left (i + 1)) ≡ add-all eqb found (map (λ v. v .to) (cond t (v ∷ kept-by (is-live alg p) (drop (i + 1) moves)) (kept-by (is-live alg p) (drop (i + 1) moves))))
-      go true = refl
-      go false = refl
-
-  pub queue-all : (inv : add-all eqb found (left i) ≡ answer) → length moves ≤ i → found ≡ answer
-  queue-all inv h = sym (at-drop-all (λ vs. add-all eqb found (map (λ v. v .to) (kept-by (is-live alg p) vs))) moves i h) ∙ inv
-
--- where no move of the table strays, the one at a place does not
-pub none-at : {X : Type 0} (test : X → Bool) (xs : List X) (i : ℕ) (x : X) → any test xs ≡ false → i < length xs → x ≡ getD xs i x → test x ≡ false
-none-at test xs i x none lt read =
-    elim (cases-bool (test x)) [
-      | inl t ↦ absurd (both-ways (any test xs) none (some-any test x xs (subst (λ y. Member y xs) (sym read) (member-getD xs i x lt)) t))
-      | inr f ↦ f
-    ]
+-- with no marks nothing is found
+pub tracks-none : (states : ℕ) (marks queue : List ℕ) → ((k : ℕ) → getD marks k 0 ≡ 0) → StateTracks states marks queue 0
+tracks-none states marks queue clear = record { room = omega arith; once = tt; inside = λ x m. absurd m; marked = λ x i. clear x }

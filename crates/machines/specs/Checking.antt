@@ -39,6 +39,10 @@ module _ {E G : Type 0} (alg : Model E G) where
   abbrev pub is-live : ℕ → Move G → Bool
   is-live p v = eqb (v .from) p && isSome (alg .sample (v .guard))
 
+  -- where the live moves from p lead, in table order
+  abbrev pub targets : List (Move G) → ℕ → List ℕ
+  targets vs p = map (λ v. v .to) (kept-by (is-live p) vs)
+
   -- the guards without the move's, if that is live
   abbrev pub narrowed : ℕ → Move G → List G → List G
   narrowed p v gs = cond (is-live p v) (without (v .guard) gs) gs
@@ -49,7 +53,7 @@ module _ {E G : Type 0} (alg : Model E G) (M : Machine G) where
   live p = kept-by (is-live alg p) (M .moves)
 
   abbrev pub successors : ℕ → List ℕ
-  successors p = map (λ v. v .to) (live p)
+  successors = targets alg (M .moves)
 
   -- the states reached from 0, breadth first
   abbrev pub order : List ℕ

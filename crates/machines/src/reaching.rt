@@ -1,17 +1,15 @@
 // Breadth-first search: the states reached from 0, in the order in which a walk meets them.
 ghost use lib.Dec.{eqb};
-ghost use lib.ListN.{length, take};
+ghost use lib.ListN.{length, getD, take};
 ghost use mathlib.Core.Bool.{false, cond};
-ghost use mathlib.Core.List.{map};
 ghost use mathlib.Core.Path.{_≡_};
-ghost use Prim.Native.Nat.{_<_, _≤_};
+ghost use Prim.Native.Nat.{ℕ, _<_, _≤_};
 ghost use Rattle.guards.specs.Lists.{any};
-ghost use Rattle.machines.specs.Checking.{is-live};
+ghost use Rattle.machines.specs.Checking.{is-live, targets};
 ghost use Rattle.machines.specs.Limits.{most-states, most-written};
 ghost use Rattle.machines.specs.Running.{stray};
-ghost use Rattle.machines.specs.Search.{add, add-all};
+ghost use Rattle.machines.specs.Search.{add, add-all, reached};
 ghost use Rattle.machines.specs.Tracking.{Queued, StateTracks};
-ghost use Rattle.std.specs.shelf.Lists.{kept-by};
 use crate::moves::Move;
 use crate::rests::is_live;
 use guards::algebra::Algebra;
@@ -74,11 +72,45 @@ fn expand<A: Algebra>(
     requires few { ⌜ states ≤ most-written ⌝ }
     requires sizes { ⌜ length (now marks) ≡ most-states ⌝ ∗ ⌜ length (now queue) ≡ most-states ⌝ }
     requires tracks { ⌜ StateTracks states (now marks) (now queue) count ⌝ }
-    ensures { λ r. ⌜ StateTracks states (now (marks .exit)) (now (queue .exit)) r × (take r (now (queue .exit)) ≡ add-all eqb (take count (now (queue .entry))) (map (λ v. v .to) (kept-by (is-live (model (now (alg .entry))) state) (now (moves .entry))))) ⌝ }
+    ensures { λ r. ⌜ StateTracks states (now (marks .exit)) (now (queue .exit)) r × (take r (now (queue .exit)) ≡ add-all eqb (take count (now (queue .entry))) (targets (model (now (alg .entry))) (now (moves .entry)) state)) ⌝ }
 {
     let mut found = count;
     for line in moves {
         found = queue_target(alg, line, states, state, marks, queue, found);
+    }
+    found
+}
+
+// Sets every mark to 0.
+pub(crate) fn clear(marks: &mut [u8])
+    ensures { λ _. ⌜ ((k : ℕ) → getD (now (marks .exit)) k 0 ≡ 0) ⌝ }
+{
+    for mark in marks.iter_mut() {
+        *mark = 0;
+    }
+}
+
+// Queues the states reached from 0, breadth first; gives their count. A state's mark is one more than its place.
+pub(crate) fn reach<A: Algebra>(
+    alg: &A,
+    moves: &[Move<A::Guard>],
+    states: usize,
+    marks: &mut [u8],
+    queue: &mut [u8],
+) -> usize
+    requires no_stray { ⌜ any (stray states) (now moves) ≡ false ⌝ }
+    requires some { ⌜ 0 < states ⌝ }
+    requires few { ⌜ states ≤ most-written ⌝ }
+    requires sizes { ⌜ length (now marks) ≡ most-states ⌝ ∗ ⌜ length (now queue) ≡ most-states ⌝ }
+    ensures { λ r. ⌜ StateTracks states (now (marks .exit)) (now (queue .exit)) r × (take r (now (queue .exit)) ≡ reached eqb (targets (model (now (alg .entry))) (now (moves .entry))) states 0) ⌝ }
+{
+    clear(marks);
+    let mut found = add_new(marks, 0, queue, 0, 0);
+    let mut visited = 0;
+    while visited < found {
+        let state = usize::from(queue[visited]);
+        found = expand(alg, moves, states, state, marks, queue, found);
+        visited += 1;
     }
     found
 }

@@ -8,7 +8,7 @@ use Rattle.std.specs.shelf.Lists.{kept-by}
 use Rattle.machines.specs.Checking.{is-live}
 use Rattle.machines.specs.Running.{stray}
 use Rattle.machines.specs.Search.{add-all}
-use Rattle.machines.proofs.Tracked.{queue-more, queue-all, none-at}
+use Rattle.machines.proofs.Visits.{queue-more, queue-all, none-at}
 use Rattle.machines.proofs.reaching.expand.Needs as need
 
 pub queue-target-found-requires : need.queue-target-found-requires
