@@ -73,6 +73,9 @@ module _ {E G : Type 0} (alg : Model E G) (moves : List (Move G)) where
       each-way (lowest-clash alg moves) (NoAnswer ask-first moves 0) (Lowest alg moves None) (FirstAnswer ask-first moves 0) (λ p. Lowest alg moves (Some p))
       (λ none i j e c. no-second i (λ u. none i u (omega arith)) j e c) low (first-some-is ask-first moves 0)
 
+  pub lowest-from : (r : Option (ℕ × ℕ × E)) → r ≡ lowest-clash alg moves → Lowest alg moves r
+  lowest-from r is = subst (Lowest alg moves) (sym is) lowest-clash-is
+
 module _ {E G : Type 0} (alg : Model E G) (laws : Laws alg) (M : Machine G) where
   clashes : (u v : Move G) → u .from ≡ v .from → (u .to ≡ v .to → ⊥) → (e : E) → alg .admits (u .guard) e ≡ true → alg .admits (v .guard) e ≡ true → (s : E) × (clash alg u v ≡ Some s)
   clashes u v from apart e a b =

@@ -1,6 +1,8 @@
 // Endings: the accepting states of a machine.
 ghost use lib.Dec.{eqb, ltb};
+ghost use lib.ListN.{length, getD};
 ghost use mathlib.Core.Bool.{false, not, _||_, cond};
+ghost use mathlib.Core.List.{map};
 ghost use mathlib.Core.Path.{_≡_};
 ghost use Prim.Native.Nat.{ℕ, _-_, _^_, _<_, _≤_};
 ghost use Rattle.machines.specs.Endings.{holds};
@@ -65,5 +67,29 @@ impl Endings {
         Endings {
             mask: self.mask ^ ones(count),
         }
+    }
+
+    // The set with the place too, if the other set has the state.
+    fn insert_if(self, place: usize, other: Endings, state: usize) -> Endings
+        requires { ⌜ place < 64 ⌝ }
+        ensures { λ r. ⌜ ((k : ℕ) → holds r k ≡ cond (holds other state) (holds self k || eqb k place) (holds self k)) ⌝ }
+    {
+        if other.contains(state) {
+            self.insert(place)
+        } else {
+            self
+        }
+    }
+
+    // The places of the order whose states are in the set.
+    pub(crate) fn reordered(self, order: &[u8]) -> Endings
+        requires { ⌜ length (now order) ≤ 64 ⌝ }
+        ensures { λ r. ⌜ ((k : ℕ) → holds r k ≡ getD (map (holds self) (now (order .entry))) k false) ⌝ }
+    {
+        let mut places = Endings::none();
+        for (place, state) in order.iter().enumerate() {
+            places = places.insert_if(place, self, usize::from(*state));
+        }
+        places
     }
 }

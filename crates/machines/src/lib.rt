@@ -1,5 +1,6 @@
 // Machines whose moves carry guards: what they are made of, and why a call on one is refused.
 mod buffers;
+mod clashes;
 pub mod clauses;
 pub mod endings;
 pub mod joins;

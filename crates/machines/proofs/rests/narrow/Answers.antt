@@ -12,5 +12,5 @@ returns g c =
     let count : c .args .count - 0 ≡ c .args .count = omega arith in (
       omega arith,
       ap (take (c .in-Continue-filled .filled)) (c .copy-front .ensures) ∙ copied-front (c .put-without .last .out) (drop (c .in-Continue-filled .filled) (c .args .list .now)) (c .in-Continue-filled .filled) (made .0)
-      ∙ made .1 ∙ ap (λ n. without (g .A·Algebra .model (c .args .alg .now)) (c .args .b) (take n (c .args .list .now))) count,
+          ∙ made .1 ∙ ap (λ n. without (g .A·Algebra .model (c .args .alg .now)) (c .args .b) (take n (c .args .list .now))) count,
     )

@@ -46,7 +46,7 @@ loop-part-again g c =
       omega arith,
       omega arith,
       made .1 ∙ ap (λ ys. ys ++ (c .in-Some .part ∷ [])) (c .loop-part .inv .3) ∙ append-assoc front (take (c .loop-part .number) ps) (c .in-Some .part ∷ [])
-      ∙ ap (λ ys. front ++ ys) (sym (nth-more ps (c .loop-part .number) (c .in-Some .part) (sym (c .in-Some .ensures tt)))),
+          ∙ ap (λ ys. front ++ ys) (sym (nth-more ps (c .loop-part .number) (c .in-Some .part) (sym (c .in-Some .ensures tt)))),
     )
 
 pub returns : need.returns
