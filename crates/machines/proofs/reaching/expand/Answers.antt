@@ -24,7 +24,7 @@ loop-line-again g c =
     let m = g .A·Algebra .model (c .args .alg .now) in (
       c .queue-target-found .ensures .0,
       ap (λ ys. add-all eqb ys (map (λ v. v .to) (kept-by (is-live m (c .args .state)) (drop (c .loop-line .line-index + 1) (c .args .moves .now))))) (c .queue-target-found .ensures .1)
-      ∙ queue-more m (c .args .state) (c .args .moves .now) _ (c .loop-line .line-index) _ (c .loop-line .inv .1) (c .line-item .result) (c .loop-line-test .taken) (c .line-item .is),
+          ∙ queue-more m (c .args .state) (c .args .moves .now) _ (c .loop-line .line-index) _ (c .loop-line .inv .1) (c .line-item .result) (c .loop-line-test .taken) (c .line-item .is),
     )
 
 pub returns : need.returns
