@@ -1,3 +1,5 @@
 // Orders on a rule sheet, and the ten-byte records that ask for them.
+pub mod hand;
 pub mod order;
 pub mod records;
+pub mod steps;
