@@ -1,3 +1,4 @@
 -- The definitions that the contracts cite.
+pub mod Printout
 pub mod Records
 pub mod Steps

@@ -27,8 +27,8 @@ use Rattle.orders.specs.declared.order.Order.the-variants.{Open, Add, Mark, Wr
 abbrev pub Why : Type 0
 Why = Option (Told (Both ℕ ℕ))
 
-abbrev pub Line : Type 0
-Line = Move (Both FlagRow MinuteRow)
+abbrev pub ActivityMove : Type 0
+ActivityMove = Move (Both FlagRow MinuteRow)
 
 -- what a call answers on a moved value
 abbrev pub Called : Type 0 → Type 0
@@ -38,9 +38,9 @@ Called T = Result T (Refused T (Both ℕ ℕ))
 pub record Sheet : Type 0 where
   pub hand : Hand
   pub rule : Rule
-  pub table : List Line
+  pub table : List ActivityMove
 
-abbrev pub sheet : Hand → Rule → List Line → Sheet
+abbrev pub sheet : Hand → Rule → List ActivityMove → Sheet
 sheet hand rule table = record { hand = hand; rule = rule; table = table }
 
 -- ---- what the hand and the rule are after a call
@@ -84,11 +84,11 @@ needs-order later (Ok order) = later order
 needs-order later (Err why) = Some (told why)
 
 -- a move's numbers are tested before the clause and its table
-abbrev pub writing-why : Line → List Line → OpenClause → Why
+abbrev pub writing-why : ActivityMove → List ActivityMove → OpenClause → Why
 writing-why line table c = needs-order (λ order. writing-refused c table line) (numbers-checked (Write line))
 
 -- why an order is refused with that hand: the hand is tested first
-abbrev pub order-why : Hand → List Line → Order → Why
+abbrev pub order-why : Hand → List ActivityMove → Order → Why
 order-why hand table Open = needs-nothing hand
 order-why hand table Add = needs-open adding-refused hand
 order-why hand table (Mark state) = needs-open (λ c. marking-refused c state) hand
