@@ -57,7 +57,6 @@ impl Line {
     }
 }
 
-
 pub impl fmt::Display for Line as LineDisplay {
     ghost shown = { λ line. Some (text line) };
 

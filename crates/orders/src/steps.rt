@@ -13,13 +13,26 @@ use guards::activity::ACTIVITY;
 use guards::activity::ActivityEntry;
 use guards::activity::ActivityGuard;
 use guards::flags::FlagsAlgebra;
+use guards::flags::NO_FLAGS;
 use guards::minutes::MinutesAlgebra;
+use guards::minutes::NO_MINUTES;
+use guards::pair::Both;
 use guards::pair::PairAlgebra;
 use machines::clauses::OpenClause;
 use machines::clauses::Rule;
 use machines::moves::Move;
 use machines::refusals::Refusal;
 use machines::refusals::Refused;
+
+// What a place of a table holds before a move is written there.
+pub const UNWRITTEN: Move<ActivityGuard> = Move {
+    from: 0,
+    guard: Both {
+        first: NO_FLAGS,
+        second: NO_MINUTES,
+    },
+    to: 0,
+};
 
 // What an order makes of the hand, or the hand as it was and why.
 type Handled = Result<Hand, Refused<Hand, ActivityEntry>>;
@@ -63,7 +76,7 @@ fn open(hand: Hand) -> Handled
 {
     match hand {
         Hand::Nothing => Ok(Hand::Open(OpenClause::open(&ACTIVITY))),
-        other => misplaced(other),
+        held => misplaced(held),
     }
 }
 
@@ -94,11 +107,7 @@ fn mark(hand: Hand, state: usize) -> Handled
 }
 
 // M: writes a move into the open clause. Its numbers are tested before the clause is asked.
-fn write(
-    hand: Hand,
-    clause_table: &mut [Move<ActivityGuard>],
-    line: Move<ActivityGuard>,
-) -> Handled
+fn write(hand: Hand, clause_table: &mut [Move<ActivityGuard>], line: Move<ActivityGuard>) -> Handled
     ensures { λ r. ⌜ Outcome (needs-open (writing-why line (now («clause_table» .entry))) hand) (OpenTo (λ c d. Written c (now («clause_table» .entry)) line d (now («clause_table» .exit))) hand) hand (now («clause_table» .exit) ≡ now («clause_table» .entry)) r ⌝ }
 {
     match hand {
@@ -163,12 +172,7 @@ fn turn(hand: Hand, rule: Rule) -> Stepped
 }
 
 // The step of an order.
-fn apply(
-    hand: Hand,
-    rule: Rule,
-    clause_table: &mut [Move<ActivityGuard>],
-    order: Order,
-) -> Stepped
+fn apply(hand: Hand, rule: Rule, clause_table: &mut [Move<ActivityGuard>], order: Order) -> Stepped
     ensures { λ s. ⌜ Step (Ok order) (sheet hand rule (now («clause_table» .entry))) (s .refusal) (sheet (s .hand) (s .rule) (now («clause_table» .exit))) ⌝ }
 {
     match order {

@@ -6,10 +6,7 @@ use guards::activity::ACTIVITY;
 use guards::activity::ActivityEntry;
 use guards::activity::ActivityGuard;
 use guards::flags::FlagsAlgebra;
-use guards::flags::NO_FLAGS;
 use guards::minutes::MinutesAlgebra;
-use guards::minutes::NO_MINUTES;
-use guards::pair::Both;
 use guards::pair::PairAlgebra;
 use machines::clauses::Rule;
 use machines::limits::MOVES;
@@ -22,22 +19,13 @@ use orders::records::INPUT_BYTES;
 use orders::records::INPUT_RECORDS;
 use orders::records::RECORD_BYTES;
 use orders::steps::Stepped;
+use orders::steps::UNWRITTEN;
 use orders::steps::step;
 use std::io;
 use std::io::Read;
 
 // One byte more than an input may have, so that a longer one shows.
 const BUFFER_BYTES: usize = INPUT_BYTES + 1;
-
-// What a place of a table holds before a move is written there.
-const UNWRITTEN: Move<ActivityGuard> = Move {
-    from: 0,
-    guard: Both {
-        first: NO_FLAGS,
-        second: NO_MINUTES,
-    },
-    to: 0,
-};
 
 // Fills the buffer from standard input as far as there is input; gives how many bytes came.
 fn read_input(rt: &LibcRuntime, buffer: &mut [u8]) -> io::Result<usize>

@@ -7,3 +7,5 @@ mod minutes;
 mod pairs;
 #[cfg(test)]
 mod records;
+#[cfg(test)]
+mod steps;
