@@ -1,2 +1,4 @@
 -- The definitions that the contracts cite.
+pub mod Printout
 pub mod Records
+pub mod Steps

@@ -11,3 +11,5 @@ mod pairs;
 mod records;
 #[cfg(test)]
 mod running;
+#[cfg(test)]
+mod steps;

@@ -1,4 +1,4 @@
-use mathlib.Core.Path.{sym, _∙_}
+use mathlib.Core.Path.{sym}
 use Rattle.machines.specs.Running.{taken-by}
 use Rattle.machines.proofs.Loops.{found-hit, found-more, found-none}
 use Rattle.machines.proofs.clauses.running.next_state.Needs as need
