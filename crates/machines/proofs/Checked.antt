@@ -95,7 +95,7 @@ module _ {E G : Type 0} (alg : Model E G) (laws : Laws alg) (M : Machine G) (ran
   checked-accepts : (w : List E) → Day alg w → Decides (ends alg M (run (step alg M) (Some 0) w)) (Accepts alg (checked alg M) 0 w)
   checked-accepts w d = rw start-place at (numbered-accepts alg laws (checked-numbered alg laws M range one) checked-proper (ends alg M) ends-are w (Some 0) start-in d)
 
-  pub checked-means : CheckMeaning alg M
+  pub checked-means : CheckMeaning alg M (checked alg M)
   checked-means = record {
     proper = checked-proper;
     keeps = λ w d. let a = checked-accepts w d in let c = clause-accepts w 0 in (λ h. a .0 (c .1 h), λ h. c .0 (a .1 h));

@@ -91,8 +91,8 @@ module _ {E G : Type 0} (alg : Model E G) (M : Machine G) where
   abbrev pub check-fits : Bool
   check-fits = every (λ p. rest-fits alg (alg .whole ∷ []) (live p)) order && leb (length (checked .moves)) most-moves
 
-  -- the checked machine is complete and deterministic, accepts what the clause accepts, and has no state that no day reaches
-  pub record CheckMeaning : Type 0 where
-    pub proper : Proper alg checked
-    pub keeps : (w : List E) → Day alg w → (Accepts alg M 0 w → Accepts alg checked 0 w) × (Accepts alg checked 0 w → Accepts alg M 0 w)
-    pub reaches : (q : ℕ) → q < checked .count → (w : List E) × Day alg w × LeadsTo alg checked 0 w q
+-- N is complete and deterministic, accepts what M accepts, and has no state that no day reaches
+pub record CheckMeaning {E G : Type 0} (alg : Model E G) (M N : Machine G) : Type 0 where
+  pub proper : Proper alg N
+  pub keeps : (w : List E) → Day alg w → (Accepts alg M 0 w → Accepts alg N 0 w) × (Accepts alg N 0 w → Accepts alg M 0 w)
+  pub reaches : (q : ℕ) → q < N .count → (w : List E) × Day alg w × LeadsTo alg N 0 w q

@@ -1,5 +1,6 @@
 pub mod Automaton
 pub mod Calls
+pub mod CheckCall
 pub mod Checking
 pub mod Clashes
 pub mod Endings

@@ -1,0 +1,54 @@
+-- The call of checking: when it refuses, what it makes, and what that means.
+use mathlib.Core.Path.{_≡_}
+use mathlib.Core.Bool.{Bool, not, _||_}
+use mathlib.Core.List.{List, []}
+use Prim.Native.Nat.{ℕ}
+use lib.Dec.{ltb}
+use lib.ListN.{length, drop}
+use Rattle.std.specs.declared.option.Option.{Option}
+use Rattle.std.specs.declared.option.Option.the-variants.{Some, None}
+use Rattle.guards.specs.Algebra.{Model}
+use Rattle.guards.specs.Lists.{any}
+use Rattle.machines.specs.Calls.{refuse-if}
+use Rattle.machines.specs.Checking.{checked, check-fits, CheckMeaning}
+use Rattle.machines.specs.Clashes.{lowest-clash}
+use Rattle.machines.specs.Limits.{most-moves, most-parts, mark-bytes}
+use Rattle.machines.specs.Machine.{Machine}
+use Rattle.machines.specs.Refusals.{Told, tell, told}
+use Rattle.machines.specs.Running.{stray}
+use Rattle.machines.specs.Values.{machine}
+use Rattle.machines.specs.declared.clauses.CheckedClause.{CheckedClause}
+use Rattle.machines.specs.declared.clauses.OpenClause.{OpenClause}
+use Rattle.machines.specs.declared.moves.Move.{Move}
+use Rattle.machines.specs.declared.refusals.Refusal.the-variants.{Clash}
+
+-- a table or buffer is shorter than its least size
+abbrev pub check-short : {G : Type 0} → List (Move G) → List (Move G) → List ℕ → List G → List G → Bool
+check-short table spare marks parts others =
+    ltb (length table) most-moves || (ltb (length spare) most-moves || (ltb (length marks) mark-bytes || (ltb (length parts) most-parts || ltb (length others) most-parts)))
+
+-- a clash refuses, or else what comes after it does
+abbrev pub clash-why : {E : Type 0} → Option (ℕ × ℕ × E) → Option (Told E) → Option (Told E)
+clash-why None later = later
+clash-why (Some c) later = Some (told (Clash (c .0) (c .1) (c .2)))
+
+module _ {E G : Type 0} (alg : Model E G) where
+  -- what a machine's moves refuse, the sizes aside
+  abbrev pub machine-why : Machine G → Option (Told E)
+  machine-why M =
+      refuse-if (any (stray (M .count)) (M .moves)) (tell 8 [])
+      (clash-why (lowest-clash alg (M .moves)) (refuse-if (not (check-fits alg M)) (tell 6 []) None))
+
+  -- the clause as written, with its table
+  abbrev pub written : OpenClause → List (Move G) → Machine G
+  written c table = machine (c .counts) (c .endings) table
+
+  abbrev pub check-why : OpenClause → List (Move G) → List (Move G) → List ℕ → List G → List G → Option (Told E)
+  check-why c table spare marks parts others = refuse-if (check-short table spare marks parts others) (tell 1 []) (machine-why (written c table))
+
+  -- the checked clause with its table is what the definition makes of the written one; places past its moves are as they were
+  pub record CheckedAs (c : OpenClause) (before : List (Move G)) (d : CheckedClause) (after : List (Move G)) : Type 0 where
+    pub is : machine (d .counts) (d .endings) after ≡ checked alg (written c before)
+    pub moves : d .counts .moves ≡ length (checked alg (written c before) .moves)
+    pub tail : drop (d .counts .moves) after ≡ drop (d .counts .moves) before
+    pub meaning : CheckMeaning alg (written c before) (machine (d .counts) (d .endings) after)
