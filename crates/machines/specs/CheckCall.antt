@@ -25,7 +25,7 @@ use Rattle.machines.specs.declared.refusals.Refusal.the-variants.{Clash}
 -- a table or buffer is shorter than its least size
 abbrev pub check-short : {G : Type 0} → List (Move G) → List (Move G) → List ℕ → List G → List G → Bool
 check-short table spare marks parts others =
-    ltb (length table) most-moves || (ltb (length spare) most-moves || (ltb (length marks) mark-bytes || (ltb (length parts) most-parts || ltb (length others) most-parts)))
+    ltb (length table) most-moves || ltb (length spare) most-moves || ltb (length marks) mark-bytes || ltb (length parts) most-parts || ltb (length others) most-parts
 
 -- a clash refuses, or else what comes after it does
 abbrev pub clash-why : {E : Type 0} → Option (ℕ × ℕ × E) → Option (Told E) → Option (Told E)

@@ -4,6 +4,7 @@ ghost use Rattle.machines.specs.Values.{Within};
 use crate::endings::Endings;
 
 mod checked;
+mod checking;
 mod open;
 mod rules;
 mod running;
