@@ -43,7 +43,8 @@ fn read_input(rt: &LibcRuntime, buffer: &mut [u8]) -> io::Result<usize>
     Ok(filled)
 }
 
-// Steps over the records in order; notes for each why it was refused, if it was, and gives the rule that stands at last.
+// Steps over the records in order and gives the rule that stands at last. Notes for each record why it was refused, if it
+// was; there is a place for each.
 fn run(
     rule: Rule,
     clause_table: &mut [Move<ActivityGuard>],
