@@ -1,5 +1,6 @@
 pub mod Appending
 pub mod Automata
+pub mod CheckCalls
 pub mod Checked
 pub mod CheckedNodes
 pub mod EndingBits
