@@ -1,13 +1,18 @@
 -- Placing: the moves that a check writes, by the new numbers that the marks tell.
 use mathlib.Core.Path.{_≡_}
-use mathlib.Core.Bool.{true, cond}
-use mathlib.Core.List.{List, [], _∷_, map}
-use Prim.Native.Nat.{ℕ, _-_, _<_}
-use lib.ListN.{length, getD}
+use mathlib.Core.Bool.{Bool, true, false, cond}
+use mathlib.Core.List.{List, [], _∷_, _++_, map}
+use mathlib.Core.Logic.{_⊎_}
+use Prim.Native.Nat.{ℕ, suc, _-_, _<_, _≤_}
+use lib.Dec.{eqb}
+use lib.ListN.{length, getD, take}
+use Rattle.std.specs.Options.{Cases}
+use Rattle.std.specs.declared.option.Option.{Option}
 use Rattle.std.specs.shelf.Lists.{kept-by}
 use Rattle.guards.specs.Algebra.{Model}
-use Rattle.guards.specs.Lists.{Member}
-use Rattle.machines.specs.Checking.{is-live}
+use Rattle.guards.specs.Lists.{Member, is-some}
+use Rattle.machines.specs.Checking.{is-live, rest-of, rest-fits}
+use Rattle.machines.specs.declared.completing.Placed.{Placed}
 use Rattle.machines.specs.declared.moves.Move.{Move}
 
 -- the state has a mark that is not 0
@@ -34,3 +39,24 @@ module _ {E G : Type 0} (alg : Model E G) where
   -- what a move places of state p, which has the new number n
   abbrev pub line-moves : List ℕ → ℕ → ℕ → Move G → List (Move G)
   line-moves marks p n v = cond (is-live alg p v) (moved-by marks n v ∷ []) []
+
+module _ {E G : Type 0} (alg : Model E G) (vs : List (Move G)) where
+  -- what the live moves from p leave of the whole guard, and whether that has room at every stage
+  abbrev pub rest-at : ℕ → List G
+  rest-at p = rest-of alg (alg .whole ∷ []) (kept-by (is-live alg p) vs)
+
+  abbrev pub fits-at : ℕ → Bool
+  fits-at p = rest-fits alg (alg .whole ∷ []) (kept-by (is-live alg p) vs)
+
+  -- state p leaves a rest
+  abbrev pub leaves : ℕ → Bool
+  leaves p = is-some (rest-at p)
+
+  -- what state p places
+  abbrev pub state-moves : List ℕ → ℕ → ℕ → List (Move G)
+  state-moves marks sink p = map (moved-by marks (number-by marks p)) (kept-by (is-live alg p) vs) ++ map (sunk-from (number-by marks p) sink) (rest-at p)
+
+-- the rests fit, and the moves are the first of the table; or one of the two has no room
+abbrev pub PlacedAs : {G : Type 0} → Bool → List (Move G) → Bool → List (Move G) → Option Placed → Type 0
+PlacedAs fits wanted sinks table r =
+    Cases r ((fits ≡ false) ⊎ (length table < length wanted)) (λ d. (fits ≡ true) × (d .moves ≤ length table) × (take (d .moves) table ≡ wanted) × (d .sink ≡ sinks))

@@ -1,16 +1,18 @@
 // Completing a clause: the moves of the reached states, under their new numbers, and what leads to the sink.
 ghost use lib.ListN.{length, take};
-ghost use mathlib.Core.Bool.{true};
+ghost use mathlib.Core.Bool.{true, _||_};
 ghost use mathlib.Core.List.{_++_, map};
 ghost use mathlib.Core.Path.{_≡_};
 ghost use Prim.Native.Nat.{_≤_};
 ghost use Rattle.machines.specs.Checking.{is-live};
 ghost use Rattle.machines.specs.Filled.{Filled};
-ghost use Rattle.machines.specs.Placing.{Marked, TargetsMarked, line-moves, moved-by, number-by, sunk-from};
+ghost use Rattle.machines.specs.Limits.{most-parts};
+ghost use Rattle.machines.specs.Placing.{Marked, TargetsMarked, PlacedAs, fits-at, leaves, line-moves, moved-by, number-by, state-moves, sunk-from};
 ghost use Rattle.std.specs.shelf.Lists.{kept-by};
 use crate::buffers::push;
 use crate::moves::Move;
 use crate::rests::is_live;
+use crate::rests::put_rest;
 use guards::algebra::Algebra;
 
 // The new number of a reached state, by its mark.
@@ -96,4 +98,38 @@ fn place_rest<G: Copy>(
         filled = push(spare, filled, line)?;
     }
     Some(filled)
+}
+
+// What was placed so far: how many moves, and whether one leads to the sink.
+#[derive(Clone, Copy)]
+struct Placed {
+    moves: usize,
+    sink: bool,
+}
+
+// Places the live moves of a reached state and then its rest; None where the rest or the moves have no room.
+fn place_state<A: Algebra>(
+    alg: &A,
+    moves: &[Move<A::Guard>],
+    state: usize,
+    sink: usize,
+    marks: &[u8],
+    list: &mut [A::Guard],
+    other: &mut [A::Guard],
+    spare: &mut [Move<A::Guard>],
+    done: Placed,
+) -> Option<Placed>
+    requires sizes { ⌜ length (now list) ≡ most-parts ⌝ ∗ ⌜ length (now other) ≡ most-parts ⌝ }
+    requires marked { ⌜ Marked (now marks) state ⌝ ∗ ⌜ TargetsMarked (model (now alg)) (now moves) state (now marks) ⌝ }
+    requires room { ⌜ done .moves ≤ length (now spare) ⌝ }
+    ensures { λ r. ⌜ PlacedAs (fits-at (model (now (alg .entry))) (now (moves .entry)) state) (take (done .moves) (now (spare .entry)) ++ state-moves (model (now (alg .entry))) (now (moves .entry)) (now (marks .entry)) sink state) (done .sink || leaves (model (now (alg .entry))) (now (moves .entry)) state) (now (spare .exit)) r ⌝ }
+{
+    let left = put_rest(alg, moves, state, list, other)?;
+    let from = number_of(marks, state);
+    let filled = place_lines(alg, moves, state, from, marks, spare, done.moves)?;
+    let placed = place_rest(&list[0..left], from, sink, spare, filled)?;
+    Some(Placed {
+        moves: placed,
+        sink: done.sink | (left > 0),
+    })
 }
