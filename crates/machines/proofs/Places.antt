@@ -24,6 +24,10 @@ module _ {X : Type 0} where
   member-getD (x ∷ xs) zero d h = inl refl
   member-getD (x ∷ xs) (suc i) d h = inr (member-getD xs i d (omega arith))
 
+  -- what was read at a place is a member
+  pub member-read : (xs : List X) (i : ℕ) (x : X) → i < length xs → x ≡ getD xs i x → Member x xs
+  member-read xs i x lt read = subst (λ (y : X). Member y xs) (sym read) (member-getD xs i x lt)
+
 pub number-tells : Tells eqb
 number-tells = record { itself = λ n. eq-eqb n n refl; equal = eqb-true }
 
