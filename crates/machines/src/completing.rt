@@ -3,12 +3,13 @@ ghost use lib.ListN.{length, take};
 ghost use mathlib.Core.Bool.{true, _||_};
 ghost use mathlib.Core.List.{_++_, map};
 ghost use mathlib.Core.Path.{_≡_};
-ghost use Prim.Native.Nat.{_≤_};
+ghost use Prim.Native.Nat.{ℕ, _≤_};
+ghost use Rattle.guards.specs.Lists.{Member, any, every};
 ghost use Rattle.machines.specs.Checking.{is-live};
 ghost use Rattle.machines.specs.Filled.{Filled};
 ghost use Rattle.machines.specs.Limits.{most-parts};
 ghost use Rattle.machines.specs.Placing.{Marked, TargetsMarked, PlacedAs, fits-at, leaves, line-moves, moved-by, number-by, state-moves, sunk-from};
-ghost use Rattle.std.specs.shelf.Lists.{kept-by};
+ghost use Rattle.std.specs.shelf.Lists.{joined, kept-by};
 use crate::buffers::push;
 use crate::moves::Move;
 use crate::rests::is_live;
@@ -132,4 +133,30 @@ fn place_state<A: Algebra>(
         moves: placed,
         sink: done.sink | (left > 0),
     })
+}
+
+// Places what each reached state places, in their order; None where a rest or the moves have no room.
+fn place_states<A: Algebra>(
+    alg: &A,
+    moves: &[Move<A::Guard>],
+    order: &[u8],
+    marks: &[u8],
+    list: &mut [A::Guard],
+    other: &mut [A::Guard],
+    spare: &mut [Move<A::Guard>],
+) -> Option<Placed>
+    requires sizes { ⌜ length (now list) ≡ most-parts ⌝ ∗ ⌜ length (now other) ≡ most-parts ⌝ }
+    requires marked { ⌜ ((p : ℕ) → Member p (now order) → Marked (now marks) p × TargetsMarked (model (now alg)) (now moves) p (now marks)) ⌝ }
+    ensures { λ r. ⌜ PlacedAs (every (fits-at (model (now (alg .entry))) (now (moves .entry))) (now (order .entry))) (joined (state-moves (model (now (alg .entry))) (now (moves .entry)) (now (marks .entry)) (length (now (order .entry)))) (now (order .entry))) (any (leaves (model (now (alg .entry))) (now (moves .entry))) (now (order .entry))) (now (spare .exit)) r ⌝ }
+{
+    let sink = order.len();
+    let mut done = Placed {
+        moves: 0,
+        sink: false,
+    };
+    for found in order {
+        let state = usize::from(*found);
+        done = place_state(alg, moves, state, sink, marks, list, other, spare, done)?;
+    }
+    Some(done)
 }
