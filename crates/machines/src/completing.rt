@@ -1,16 +1,17 @@
 // Completing a clause: the moves of the reached states, under their new numbers, and what leads to the sink.
 ghost use lib.ListN.{length, take};
-ghost use mathlib.Core.Bool.{true, _||_};
-ghost use mathlib.Core.List.{_++_, map};
+ghost use mathlib.Core.Bool.{true, _||_, cond};
+ghost use mathlib.Core.List.{[], _∷_, _++_, map};
 ghost use mathlib.Core.Path.{_≡_};
-ghost use Prim.Native.Nat.{ℕ, _≤_};
+ghost use Prim.Native.Nat.{ℕ, _+_, _≤_};
 ghost use Rattle.guards.specs.Lists.{Member, any, every};
 ghost use Rattle.machines.specs.Checking.{is-live};
 ghost use Rattle.machines.specs.Filled.{Filled};
-ghost use Rattle.machines.specs.Limits.{most-parts};
-ghost use Rattle.machines.specs.Placing.{Marked, TargetsMarked, PlacedAs, fits-at, leaves, line-moves, moved-by, number-by, state-moves, sunk-from};
+ghost use Rattle.machines.specs.Limits.{most-moves, most-parts, most-written};
+ghost use Rattle.machines.specs.Placing.{Closed, Completes, Counted, Marked, Numbers, TargetsMarked, PlacedAs, fits-at, leaves, line-moves, moved-by, number-by, state-moves, sunk-from};
 ghost use Rattle.std.specs.shelf.Lists.{joined, kept-by};
 use crate::buffers::push;
+use crate::clauses::Counts;
 use crate::moves::Move;
 use crate::rests::is_live;
 use crate::rests::put_rest;
@@ -159,4 +160,32 @@ fn place_states<A: Algebra>(
         done = place_state(alg, moves, state, sink, marks, list, other, spare, done)?;
     }
     Some(done)
+}
+
+// Places the sink's own move, if a move leads to the sink; None where it has no room.
+fn place_sink<A: Algebra>(
+    alg: &A,
+    states: usize,
+    spare: &mut [Move<A::Guard>],
+    done: Placed,
+) -> Option<Counts>
+    requires { ⌜ states ≤ most-written ⌝ ∗ ⌜ done .moves ≤ length (now spare) ⌝ }
+    ensures { λ r. ⌜ Counted (states + cond (done .sink) 1 0) (take (done .moves) (now (spare .entry)) ++ cond (done .sink) (sunk-from states states (model (now (alg .entry)) .whole) ∷ []) []) (now (spare .exit)) r ⌝ }
+{
+    if !done.sink {
+        return Some(Counts {
+            states,
+            moves: done.moves,
+        });
+    }
+    let line = Move {
+        from: states,
+        guard: alg.whole(),
+        to: states,
+    };
+    let moves = push(spare, done.moves, line)?;
+    Some(Counts {
+        states: states + 1,
+        moves,
+    })
 }
