@@ -1,13 +1,14 @@
 -- Loops that append to a buffer what each element of a list gives.
 use mathlib.Core.Path.{_≡_, refl, sym, ap, subst, _∙_}
-use mathlib.Core.List.{List, [], _∷_, _++_}
+use mathlib.Core.Bool.{Bool, true, false, cond}
+use mathlib.Core.List.{List, [], _∷_, _++_, map}
 use Prim.Native.Nat.{ℕ, zero, suc, _+_, _<_, _≤_}
 use native.Mathlib.Omega.{arith}
 use native.Mathlib.Numerals.{add-one}
 use lib.ListN.{length, getD, take, drop, length-append}
 use Rattle.std.specs.declared.option.Option.{Option}
 use Rattle.std.specs.declared.option.Option.the-variants.{Some, None}
-use Rattle.std.specs.shelf.Lists.{joined}
+use Rattle.std.specs.shelf.Lists.{joined, kept-by}
 use Rattle.std.specs.shelf.Maps.{nth}
 use lib.Seq.{take-append-le}
 use Rattle.machines.specs.Filled.{Filled}
@@ -16,6 +17,20 @@ use Rattle.std.proofs.shelf.Lists.{append-assoc, length-take-le, take-more, tak
 pub joined-append : {X Y : Type 0} (f : X → List Y) (xs ys : List X) → joined f (xs ++ ys) ≡ joined f xs ++ joined f ys
 joined-append f [] ys = refl
 joined-append f (x ∷ xs) ys = ap (λ zs. f x ++ zs) (joined-append f xs ys) ∙ sym (append-assoc (f x) (joined f xs) (joined f ys))
+
+-- one element for each, or for each that passes
+pub joined-map : {X Y : Type 0} (f : X → Y) (xs : List X) → joined (λ x. f x ∷ []) xs ≡ map f xs
+joined-map f [] = refl
+joined-map f (x ∷ xs) = ap (λ ys. f x ∷ ys) (joined-map f xs)
+
+pub joined-kept : {X Y : Type 0} (test : X → Bool) (f : X → Y) (xs : List X) → joined (λ x. cond (test x) (f x ∷ []) []) xs ≡ map f (kept-by test xs)
+joined-kept test f [] = refl
+joined-kept test f (x ∷ xs) = go (test x) (joined-kept test f xs)
+  where
+    go : (t : Bool) → joined (λ x. cond (test x) (f x ∷ []) []) xs ≡ map f (kept-by test xs)
+        → cond t (f x ∷ []) [] ++ joined (λ x. cond (test x) (f x ∷ []) []) xs ≡ map f (cond t (x ∷ kept-by test xs) (kept-by test xs))
+    go true h = ap (λ ys. f x ∷ ys) h
+    go false h = h
 
 -- a list without room is not built
 pub no-room : {X : Type 0} (wanted buffer : List X) (r : Option ℕ) → r ≡ None → length buffer < length wanted → Filled wanted buffer r

@@ -12,6 +12,7 @@ pub mod MachineRuns
 pub mod Members
 pub mod Numbered
 pub mod Places
+pub mod Placing
 pub mod RestLoop
 pub mod RestMeanings
 pub mod RunMeanings

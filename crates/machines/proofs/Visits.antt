@@ -1,5 +1,5 @@
 -- The loops of a breadth-first search over states.
-use mathlib.Core.Path.{_≡_, refl, sym, ap, subst, _∙_}
+use mathlib.Core.Path.{_≡_, refl, sym, ap, _∙_}
 use mathlib.Core.Bool.{Bool, true, false, cond}
 use mathlib.Core.List.{List, _∷_, map}
 use mathlib.Core.Logic.{inl, inr}
@@ -11,13 +11,13 @@ use Rattle.std.specs.shelf.Lists.{kept-by}
 use Rattle.std.proofs.shelf.Lists.{length-take-le, getD-take, getD-default, at-drop-all}
 use Rattle.std.proofs.shelf.Tests.{cases-bool, both-ways}
 use Rattle.guards.specs.Algebra.{Model}
-use Rattle.guards.specs.Lists.{Member, any}
+use Rattle.guards.specs.Lists.{any}
 use Rattle.machines.specs.Checking.{is-live, targets}
 use Rattle.machines.specs.Search.{add, add-all, visit}
 use Rattle.machines.specs.declared.moves.Move.{Move}
 use Rattle.machines.proofs.Loops.{at-read-more}
 use Rattle.machines.proofs.Members.{some-any}
-use Rattle.machines.proofs.Places.{member-getD, number-tells}
+use Rattle.machines.proofs.Places.{member-read, number-tells}
 use Rattle.machines.proofs.Searching.{add-all-begins, visit-step, visit-done}
 
 -- one turn of the loop that queues what the live moves lead to
@@ -39,7 +39,7 @@ module _ {E G : Type 0} (alg : Model E G) (p : ℕ) (moves : List (Move G)) (fou
 pub none-at : {X : Type 0} (test : X → Bool) (xs : List X) (i : ℕ) (x : X) → any test xs ≡ false → i < length xs → x ≡ getD xs i x → test x ≡ false
 none-at test xs i x none lt read =
     elim (cases-bool (test x)) [
-      | inl t ↦ absurd (both-ways (any test xs) none (some-any test x xs (subst (λ y. Member y xs) (sym read) (member-getD xs i x lt)) t))
+      | inl t ↦ absurd (both-ways (any test xs) none (some-any test x xs (member-read xs i x lt read) t))
       | inr f ↦ f
     ]
 

@@ -7,6 +7,7 @@ pub mod Endings
 pub mod Filled
 pub mod Limits
 pub mod Machine
+pub mod Placing
 pub mod Refusals
 pub mod Running
 pub mod Search

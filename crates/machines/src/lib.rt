@@ -2,6 +2,7 @@
 mod buffers;
 mod clashes;
 pub mod clauses;
+mod completing;
 pub mod endings;
 pub mod joins;
 pub mod limits;
