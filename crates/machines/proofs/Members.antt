@@ -1,5 +1,5 @@
 -- Members of lists, lists without repeats, and the pigeonhole.
-use mathlib.Core.Path.{_≡_, refl, sym, ap, subst, _∙_}
+use mathlib.Core.Path.{_≡_, refl, sym, ap, ap₂, subst, _∙_}
 use mathlib.Core.Bool.{Bool, true, false, _||_, cond}
 use mathlib.Core.List.{List, [], _∷_, _++_, map}
 use mathlib.Core.Logic.{_⊎_, inl, inr}
@@ -89,6 +89,14 @@ module _ {X Y : Type 0} (f : X → Y) where
     λ m. let r = map-member (f x) xs m in n .0 (subst (λ (v : X). Member v xs) (apart (r .0) x (inr (r .1)) (inl refl) (r .2)) (r .1)),
     no-repeat-map xs (n .1) (λ u v a b e. apart u v (inr a) (inr b) e),
   )
+
+pub map-same : {X Y : Type 0} (f g : X → Y) (xs : List X) → ((x : X) → Member x xs → f x ≡ g x) → map f xs ≡ map g xs
+map-same f g [] same = refl
+map-same f g (x ∷ xs) same = ap₂ (λ y ys. y ∷ ys) (same x (inl refl)) (map-same f g xs (λ z m. same z (inr m)))
+
+pub joined-same : {X Y : Type 0} (f g : X → List Y) (xs : List X) → ((x : X) → Member x xs → f x ≡ g x) → joined f xs ≡ joined g xs
+joined-same f g [] same = refl
+joined-same f g (x ∷ xs) same = ap₂ (λ ys zs. ys ++ zs) (same x (inl refl)) (joined-same f g xs (λ z m. same z (inr m)))
 
 module _ {X Y : Type 0} (f : X → List Y) where
   pub member-joined : (x : X) (y : Y) (xs : List X) → Member x xs → Member y (f x) → Member y (joined f xs)

@@ -8,9 +8,9 @@ use lib.Dec.{eqb}
 use lib.ListN.{length, getD, take}
 use Rattle.std.specs.Options.{Cases}
 use Rattle.std.specs.declared.option.Option.{Option}
-use Rattle.std.specs.shelf.Lists.{kept-by}
+use Rattle.std.specs.shelf.Lists.{kept-by, joined}
 use Rattle.guards.specs.Algebra.{Model}
-use Rattle.guards.specs.Lists.{Member, is-some}
+use Rattle.guards.specs.Lists.{Member, any, every, is-some}
 use Rattle.machines.specs.Checking.{is-live, rest-of, rest-fits, order, checked, check-fits}
 use Rattle.machines.specs.Machine.{Machine}
 use Rattle.machines.specs.Search.{place-of}
@@ -63,6 +63,10 @@ module _ {E G : Type 0} (alg : Model E G) (vs : List (Move G)) where
 abbrev pub PlacedAs : {G : Type 0} → Bool → List (Move G) → Bool → List (Move G) → Option Placed → Type 0
 PlacedAs fits wanted sinks table r =
     Cases r ((fits ≡ false) ⊎ (length table < length wanted)) (λ d. (fits ≡ true) × (d .moves ≤ length table) × (take (d .moves) table ≡ wanted) × (d .sink ≡ sinks))
+
+-- what the states of the list place is the first of the table; whether one of them leaves a rest
+abbrev pub StatesPlaced : {E G : Type 0} → Model E G → List ℕ → List (Move G) → List ℕ → List (Move G) → Option Placed → Type 0
+StatesPlaced alg marks vs ps = PlacedAs (every (fits-at alg vs) ps) (joined (state-moves alg vs marks (length ps)) ps) (any (leaves alg vs) ps)
 
 -- the moves are the first of the table, and are those of so many states; or they have no room
 abbrev pub Counted : {G : Type 0} → ℕ → List (Move G) → List (Move G) → Option Counts → Type 0

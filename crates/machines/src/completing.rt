@@ -4,12 +4,12 @@ ghost use mathlib.Core.Bool.{true, _||_, cond};
 ghost use mathlib.Core.List.{[], _∷_, _++_, map};
 ghost use mathlib.Core.Path.{_≡_};
 ghost use Prim.Native.Nat.{ℕ, _+_, _≤_};
-ghost use Rattle.guards.specs.Lists.{Member, any, every};
+ghost use Rattle.guards.specs.Lists.{Member};
 ghost use Rattle.machines.specs.Checking.{is-live};
 ghost use Rattle.machines.specs.Filled.{Filled};
 ghost use Rattle.machines.specs.Limits.{most-moves, most-parts, most-written};
-ghost use Rattle.machines.specs.Placing.{Closed, Completes, Counted, Marked, Numbers, TargetsMarked, PlacedAs, fits-at, leaves, line-moves, moved-by, number-by, state-moves, sunk-from};
-ghost use Rattle.std.specs.shelf.Lists.{joined, kept-by};
+ghost use Rattle.machines.specs.Placing.{Closed, Completes, Counted, Marked, Numbers, PlacedAs, StatesPlaced, TargetsMarked, fits-at, leaves, line-moves, moved-by, number-by, state-moves, sunk-from};
+ghost use Rattle.std.specs.shelf.Lists.{kept-by};
 use crate::buffers::push;
 use crate::clauses::Counts;
 use crate::moves::Move;
@@ -148,7 +148,7 @@ fn place_states<A: Algebra>(
 ) -> Option<Placed>
     requires sizes { ⌜ length (now list) ≡ most-parts ⌝ ∗ ⌜ length (now other) ≡ most-parts ⌝ }
     requires marked { ⌜ ((p : ℕ) → Member p (now order) → Marked (now marks) p × TargetsMarked (model (now alg)) (now moves) p (now marks)) ⌝ }
-    ensures { λ r. ⌜ PlacedAs (every (fits-at (model (now (alg .entry))) (now (moves .entry))) (now (order .entry))) (joined (state-moves (model (now (alg .entry))) (now (moves .entry)) (now (marks .entry)) (length (now (order .entry)))) (now (order .entry))) (any (leaves (model (now (alg .entry))) (now (moves .entry))) (now (order .entry))) (now (spare .exit)) r ⌝ }
+    ensures { λ r. ⌜ StatesPlaced (model (now (alg .entry))) (now (marks .entry)) (now (moves .entry)) (now (order .entry)) (now (spare .exit)) r ⌝ }
 {
     let sink = order.len();
     let mut done = Placed {
@@ -188,4 +188,26 @@ fn place_sink<A: Algebra>(
         states: states + 1,
         moves,
     })
+}
+
+// Writes the moves of the completed clause into the spare table and gives its counts; None where a rest or the moves have no
+// room. The order holds the reached states, and the marks tell their places.
+pub(crate) fn complete<A: Algebra>(
+    alg: &A,
+    moves: &[Move<A::Guard>],
+    order: &[u8],
+    marks: &[u8],
+    list: &mut [A::Guard],
+    other: &mut [A::Guard],
+    spare: &mut [Move<A::Guard>],
+) -> Option<Counts>
+    requires sizes { ⌜ length (now list) ≡ most-parts ⌝ ∗ ⌜ length (now other) ≡ most-parts ⌝ }
+    requires room { ⌜ length (now spare) ≡ most-moves ⌝ }
+    requires few { ⌜ length (now order) ≤ most-written ⌝ }
+    requires numbers { ⌜ Numbers (now marks) (now order) ⌝ }
+    requires closed { ⌜ Closed (model (now alg)) (now moves) (now order) ⌝ }
+    ensures { λ r. ⌜ Completes (model (now (alg .entry))) (now (moves .entry)) (now (order .entry)) (now (spare .exit)) r ⌝ }
+{
+    let placed = place_states(alg, moves, order, marks, list, other, spare)?;
+    place_sink(alg, order.len(), spare, placed)
 }
