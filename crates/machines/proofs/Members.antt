@@ -1,5 +1,5 @@
 -- Members of lists, lists without repeats, and the pigeonhole.
-use mathlib.Core.Path.{_≡_, refl, sym, ap, ap₂, subst, _∙_}
+use mathlib.Core.Path.{_≡_, refl, sym, ap, subst, _∙_}
 use mathlib.Core.Bool.{Bool, true, false, _||_, cond}
 use mathlib.Core.List.{List, [], _∷_, _++_, map}
 use mathlib.Core.Logic.{_⊎_, inl, inr}
@@ -9,7 +9,7 @@ use lib.Dec.{ltb}
 use lib.ListN.{length}
 use Rattle.std.specs.shelf.Lists.{kept-by, joined, countBy}
 use Rattle.std.proofs.shelf.Lists.{length-map}
-use Rattle.std.proofs.shelf.Tests.{cases-eq, or-cases, or-left, or-right, and-parts, and-from, and-cases, both-ways, true≢false, false≢true, or-from, lt-ltb}
+use Rattle.std.proofs.shelf.Tests.{cases-eq, or-cases, or-left, or-right, and-parts, and-from, and-cases, both-ways, true≢false, false≢true, or-from, or-parts, lt-ltb}
 use Rattle.guards.specs.Lists.{Member, any, every, is-some}
 use Rattle.guards.proofs.Counting.{count-cons}
 use Rattle.machines.specs.Search.{NoRepeat}
@@ -90,14 +90,6 @@ module _ {X Y : Type 0} (f : X → Y) where
     no-repeat-map xs (n .1) (λ u v a b e. apart u v (inr a) (inr b) e),
   )
 
-pub map-same : {X Y : Type 0} (f g : X → Y) (xs : List X) → ((x : X) → Member x xs → f x ≡ g x) → map f xs ≡ map g xs
-map-same f g [] same = refl
-map-same f g (x ∷ xs) same = ap₂ (λ y ys. y ∷ ys) (same x (inl refl)) (map-same f g xs (λ z m. same z (inr m)))
-
-pub joined-same : {X Y : Type 0} (f g : X → List Y) (xs : List X) → ((x : X) → Member x xs → f x ≡ g x) → joined f xs ≡ joined g xs
-joined-same f g [] same = refl
-joined-same f g (x ∷ xs) same = ap₂ (λ ys zs. ys ++ zs) (same x (inl refl)) (joined-same f g xs (λ z m. same z (inr m)))
-
 module _ {X Y : Type 0} (f : X → List Y) where
   pub member-joined : (x : X) (y : Y) (xs : List X) → Member x xs → Member y (f x) → Member y (joined f xs)
   member-joined x y [] m k = absurd m
@@ -129,6 +121,11 @@ module _ {X : Type 0} (test : X → Bool) where
   pub none-any : (xs : List X) → ((x : X) → Member x xs → test x ≡ false) → any test xs ≡ false
   none-any [] h = refl
   none-any (x ∷ xs) h = or-from (test x) (any test xs) (h x (inl refl)) (none-any xs (λ y m. h y (inr m)))
+
+  pub none-each : (x : X) (xs : List X) → any test xs ≡ false → Member x xs → test x ≡ false
+  none-each x [] h m = absurd m
+  none-each x (y ∷ xs) h (inl e) = ap test (sym e) ∙ or-parts (test y) (any test xs) h .0
+  none-each x (y ∷ xs) h (inr m) = none-each x xs (or-parts (test y) (any test xs) h .1) m
 
   pub any-some : (xs : List X) → any test xs ≡ true → (x : X) × Member x xs × (test x ≡ true)
   any-some [] h = absurd (false≢true h)

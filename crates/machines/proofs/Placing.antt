@@ -3,7 +3,7 @@ use mathlib.Core.Path.{_≡_, refl, sym, ap, ap₂, subst, _∙_}
 use mathlib.Core.Bool.{Bool, true, false, cond}
 use mathlib.Core.List.{List, [], _∷_, _++_, map}
 use mathlib.Core.Logic.{_⊎_, inl, inr}
-use Prim.Native.Nat.{ℕ, _+_, _-_, _<_, _≤_}
+use Prim.Native.Nat.{ℕ, suc, _+_, _-_, _<_, _≤_}
 use native.Mathlib.Omega.{arith}
 use lib.Dec.{leb, ltb, eqb}
 use lib.ListN.{length, take, length-append}
@@ -11,18 +11,24 @@ use Rattle.std.specs.shelf.Lists.{kept-by, joined}
 use Rattle.std.specs.declared.option.Option.{Option}
 use Rattle.std.specs.declared.option.Option.the-variants.{Some, None}
 use Rattle.std.proofs.shelf.Lists.{append-assoc, length-take-le}
-use Rattle.std.proofs.shelf.Tests.{lt-ltb, le-leb, lt-leb, and-from, and-left, and-right}
-use Rattle.guards.specs.Algebra.{Model}
-use Rattle.guards.specs.Lists.{Member, every, is-some}
-use Rattle.machines.specs.Checking.{is-live, live, order, number, rest, has-sink, sink, placed, checked, check-fits}
+use Rattle.std.proofs.shelf.Tests.{cond-true, false≢true, lt-ltb, le-leb, lt-leb, and-from, and-left, and-right}
+use Rattle.guards.specs.Algebra.{Model, Laws}
+use Rattle.guards.specs.Lists.{Member, any, every, is-some}
+use Rattle.machines.specs.Checking.{is-live, targets, live, order, number, rest, has-sink, sink, placed, checked, check-fits}
 use Rattle.machines.specs.Limits.{most-moves}
 use Rattle.machines.specs.Machine.{Machine}
 use Rattle.machines.specs.Placing.{Closed, Completed, Counted, Marked, Numbers, PlacedAs, StatesPlaced, fits-at, moved-by, number-by, rest-at, state-moves, sunk-from}
-use Rattle.machines.specs.Search.{place-of}
+use Rattle.machines.specs.Running.{stray}
+use Rattle.machines.specs.Search.{place-of, reached}
+use Rattle.machines.specs.Tracking.{StateTracks}
 use Rattle.machines.specs.declared.clauses.Counts.{Counts}
 use Rattle.machines.specs.declared.completing.Placed.{Placed}
 use Rattle.machines.specs.declared.moves.Move.{Move}
-use Rattle.machines.proofs.Members.{map-same, joined-same, kept-member}
+use Rattle.machines.proofs.Appending.{map-same, joined-same}
+use Rattle.machines.proofs.LiveMoves.{live-reached}
+use Rattle.machines.proofs.Members.{member-kept, kept-member, some-any}
+use Rattle.machines.proofs.Places.{number-tells}
+use Rattle.machines.proofs.RunMeanings.{in-range}
 
 -- what has no room is not placed
 pub unplaced : {G : Type 0} (fits : Bool) (wanted : List (Move G)) (sinks : Bool) (table : List (Move G)) (r : Option Placed) → r ≡ None → (fits ≡ false) ⊎ (length table < length wanted) → PlacedAs fits wanted sinks table r
@@ -126,3 +132,16 @@ module _ {E G : Type 0} (alg : Model E G) (M : Machine G) (vs : List (Move G)) (
       let h = at-machine (λ us qs. StatesPlaced alg marks us qs before (Some d)) made in
       sink-completes alg M marks (at-machine (λ us qs. Numbers marks qs) numbers) (at-machine (Closed alg) closed) table size (h .0) _ (h .2) _ (h .3) r
       (at-machine (λ us qs. Counted (length qs + cond (d .sink) 1 0) (take (d .moves) before ++ cond (d .sink) (sunk-from (length qs) (length qs) (alg .whole) ∷ []) []) table r) counted)
+
+-- the marks of a tracked queue number the states that it found
+pub tracks-numbers : (states : ℕ) (marks queue : List ℕ) (found : ℕ) → StateTracks states marks queue found → states ≤ length marks → Numbers marks (take found queue)
+tracks-numbers states marks queue found tracks room p m =
+    let inside = tracks .inside p m in
+    let order = take found queue in
+    (omega arith, tracks .marked p inside ∙ cond-true (any (eqb p) order) (suc (place-of eqb p order)) 0 (some-any (eqb p) p order m (number-tells .itself p)))
+
+-- the reached states are closed, if no move strays
+pub reached-closed : {E G : Type 0} (alg : Model E G) → Laws alg → (vs : List (Move G)) (states : ℕ) → 0 < states → any (stray states) vs ≡ false → Closed alg vs (reached eqb (targets alg vs) states 0)
+reached-closed {G = G} alg laws vs states some none p v m k t =
+    let M : Machine G = record { count = states; endings = λ q. false; moves = vs } in
+    live-reached alg laws M (in-range alg M some (λ q h. absurd (false≢true h)) none) p v m (member-kept (is-live alg p) v vs k t)

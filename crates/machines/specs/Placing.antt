@@ -1,4 +1,4 @@
--- Placing: the moves that a check writes, by the new numbers that the marks tell.
+-- Placing: the moves that a check writes, by the new numbers that the marks tell, and when they are those of the checked machine.
 use mathlib.Core.Path.{_≡_}
 use mathlib.Core.Bool.{Bool, true, false, cond}
 use mathlib.Core.List.{List, [], _∷_, _++_, map}

@@ -17,6 +17,13 @@ use crate::rests::is_live;
 use crate::rests::put_rest;
 use guards::algebra::Algebra;
 
+// What was placed so far: how many moves, and whether one leads to the sink.
+#[derive(Clone, Copy)]
+struct Placed {
+    moves: usize,
+    sink: bool,
+}
+
 // The new number of a reached state, by its mark.
 fn number_of(marks: &[u8], state: usize) -> usize
     requires { ⌜ Marked (now marks) state ⌝ }
@@ -100,13 +107,6 @@ fn place_rest<G: Copy>(
         filled = push(spare, filled, line)?;
     }
     Some(filled)
-}
-
-// What was placed so far: how many moves, and whether one leads to the sink.
-#[derive(Clone, Copy)]
-struct Placed {
-    moves: usize,
-    sink: bool,
 }
 
 // Places the live moves of a reached state and then its rest; None where the rest or the moves have no room.
