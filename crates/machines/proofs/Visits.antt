@@ -2,7 +2,7 @@
 use mathlib.Core.Path.{_≡_, refl, sym, ap, _∙_}
 use mathlib.Core.Bool.{Bool, true, false, cond}
 use mathlib.Core.List.{List, _∷_, map}
-use Prim.Native.Nat.{ℕ, suc, _+_, _-_, _<_, _≤_}
+use Prim.Native.Nat.{ℕ, _+_, _-_, _<_, _≤_}
 use native.Mathlib.Omega.{arith}
 use lib.Dec.{eqb}
 use lib.ListN.{length, getD, take, drop, length-append}
@@ -10,7 +10,7 @@ use Rattle.std.specs.shelf.Lists.{kept-by}
 use Rattle.std.proofs.shelf.Lists.{length-take-le, getD-take, getD-default, at-drop-all}
 use Rattle.guards.specs.Algebra.{Model}
 use Rattle.guards.specs.Lists.{any}
-use Rattle.machines.specs.Checking.{is-live, targets}
+use Rattle.machines.specs.Checking.{is-live}
 use Rattle.machines.specs.Search.{add, add-all, visit}
 use Rattle.machines.specs.declared.moves.Move.{Move}
 use Rattle.machines.proofs.Loops.{at-read-more}
