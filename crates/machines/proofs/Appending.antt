@@ -1,7 +1,8 @@
 -- Loops that append to a buffer what each element of a list gives.
-use mathlib.Core.Path.{_≡_, refl, sym, ap, subst, _∙_}
+use mathlib.Core.Path.{_≡_, refl, sym, ap, ap₂, subst, _∙_}
 use mathlib.Core.Bool.{Bool, true, false, cond}
 use mathlib.Core.List.{List, [], _∷_, _++_, map}
+use mathlib.Core.Logic.{inl, inr}
 use Prim.Native.Nat.{ℕ, zero, suc, _+_, _<_, _≤_}
 use native.Mathlib.Omega.{arith}
 use native.Mathlib.Numerals.{add-one}
@@ -11,6 +12,7 @@ use Rattle.std.specs.declared.option.Option.the-variants.{Some, None}
 use Rattle.std.specs.shelf.Lists.{joined, kept-by}
 use Rattle.std.specs.shelf.Maps.{nth}
 use lib.Seq.{take-append-le}
+use Rattle.guards.specs.Lists.{Member}
 use Rattle.machines.specs.Filled.{Filled}
 use Rattle.std.proofs.shelf.Lists.{append-assoc, length-take-le, take-more, take-all, take-append-drop, joined-more}
 
@@ -31,6 +33,15 @@ joined-kept test f (x ∷ xs) = go (test x) (joined-kept test f xs)
         → cond t (f x ∷ []) [] ++ joined (λ x. cond (test x) (f x ∷ []) []) xs ≡ map f (cond t (x ∷ kept-by test xs) (kept-by test xs))
     go true h = ap (λ ys. f x ∷ ys) h
     go false h = h
+
+-- functions that give the same of each element
+pub map-same : {X Y : Type 0} (f g : X → Y) (xs : List X) → ((x : X) → Member x xs → f x ≡ g x) → map f xs ≡ map g xs
+map-same f g [] same = refl
+map-same f g (x ∷ xs) same = ap₂ (λ y ys. y ∷ ys) (same x (inl refl)) (map-same f g xs (λ z m. same z (inr m)))
+
+pub joined-same : {X Y : Type 0} (f g : X → List Y) (xs : List X) → ((x : X) → Member x xs → f x ≡ g x) → joined f xs ≡ joined g xs
+joined-same f g [] same = refl
+joined-same f g (x ∷ xs) same = ap₂ (λ ys zs. ys ++ zs) (same x (inl refl)) (joined-same f g xs (λ z m. same z (inr m)))
 
 -- a list without room is not built
 pub no-room : {X : Type 0} (wanted buffer : List X) (r : Option ℕ) → r ≡ None → length buffer < length wanted → Filled wanted buffer r

@@ -1,5 +1,5 @@
 -- A checked clause with its table: it is the checked machine, and keeps the limits.
-use mathlib.Core.Path.{_≡_, sym, ap, fun-ext, _∙_}
+use mathlib.Core.Path.{_≡_, sym, ap, subst, fun-ext, _∙_}
 use mathlib.Core.Bool.{Bool, true, false, cond}
 use mathlib.Core.List.{List, map}
 use mathlib.Core.Logic.{inl, inr}
@@ -8,11 +8,15 @@ use native.Mathlib.Omega.{arith}
 use lib.ListN.{length, getD, take, length-map}
 use Rattle.std.proofs.shelf.Lists.{getD-past}
 use Rattle.std.proofs.shelf.Tests.{cases-lt, both-ways}
+use Rattle.std.specs.declared.option.Option.{Option}
+use Rattle.std.specs.declared.option.Option.the-variants.{Some, None}
 use Rattle.guards.specs.Algebra.{Model}
-use Rattle.machines.specs.Checking.{order, has-sink, checked}
+use Rattle.machines.specs.CheckCall.{Made}
+use Rattle.machines.specs.Checking.{order, has-sink, checked, check-fits}
 use Rattle.machines.specs.Endings.{holds}
 use Rattle.machines.specs.Limits.{most-states, most-written}
 use Rattle.machines.specs.Machine.{Machine}
+use Rattle.machines.specs.Placing.{Completed}
 use Rattle.machines.specs.Values.{machine}
 use Rattle.machines.specs.declared.clauses.Counts.{Counts}
 use Rattle.machines.specs.declared.endings.Endings.{Endings}
@@ -40,3 +44,11 @@ module _ {E G : Type 0} (alg : Model E G) (M : Machine G) where
         | inl lt ↦ omega arith
         | inr past ↦ absurd (both-ways (getD (map (M .endings) (order alg M)) k false) (getD-past (map (M .endings) (order alg M)) k false (omega (arith, length-map (order alg M) (M .endings)))) h)
       ]
+
+  -- what completing gives is the checked machine, if the endings are taken in the new order
+  pub made : (counts : Counts) (endings : Endings) (table : List (Move G)) → Completed alg M table (Some counts) → ((k : ℕ) → holds endings k ≡ getD (map (M .endings) (order alg M)) k false)
+      → length (order alg M) ≤ most-written → Made alg M table (Some (counts, endings))
+  made counts endings table c ends few = let limit = checked-few few in (c .0, machine-is counts endings table (checked alg M) (c .1) ends (c .3), omega (arith, c .1), c .2)
+
+  pub not-made : (table : List (Move G)) (r : Option (Counts × Endings)) → r ≡ None → check-fits alg M ≡ false → Made alg M table r
+  not-made table r is h = subst (λ o. Made alg M table o) (sym is) h

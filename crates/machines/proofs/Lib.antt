@@ -2,6 +2,7 @@ pub mod Appending
 pub mod Automata
 pub mod CheckCalls
 pub mod Checked
+pub mod CheckedCalls
 pub mod CheckedNodes
 pub mod EndingBits
 pub mod FirstSome

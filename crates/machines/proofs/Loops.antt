@@ -1,6 +1,6 @@
--- Loops over what is left of a list: looking for the first element that passes a test, asking whether any does, walking along entries.
-use mathlib.Core.Path.{_≡_, sym, ap, _∙_}
-use mathlib.Core.Bool.{Bool, true, false, _||_, cond}
+-- Loops over what is left of a list: looking for the first element that passes a test, asking whether any or every one does, walking along entries.
+use mathlib.Core.Path.{_≡_, refl, sym, ap, _∙_}
+use mathlib.Core.Bool.{Bool, true, false, _&&_, _||_, cond}
 use mathlib.Core.List.{List, _∷_}
 use Prim.Native.Nat.{ℕ, _+_, _<_, _≤_}
 use lib.ListN.{length, getD, drop}
@@ -10,7 +10,7 @@ use Rattle.std.specs.declared.option.Option.{Option}
 use Rattle.std.specs.declared.option.Option.the-variants.{Some, None}
 use Rattle.std.specs.declared.result.Result.{Result}
 use Rattle.std.specs.declared.result.Result.the-variants.{Ok, Err}
-use Rattle.guards.specs.Lists.{any}
+use Rattle.guards.specs.Lists.{any, every}
 use Rattle.machines.specs.Running.{first-found, onward, walk}
 
 -- a function of what is left, at the element x that was read at i
@@ -44,6 +44,36 @@ module _ {X : Type 0} (test : X → Bool) (xs : List X) (i : ℕ) (answer : Bool
 
   pub any-none : length xs ≤ i → false ≡ answer
   any-none h = sym (at-drop-all (any test) xs i h) ∙ inv
+
+-- a loop that keeps whether any has passed so far
+module _ {X : Type 0} (test : X → Bool) (xs : List X) (i : ℕ) (seen answer : Bool) (inv : (seen || any test (drop i xs)) ≡ answer) where
+  pub seen-more : (x : X) → i < length xs → x ≡ getD xs i x → ((seen || test x) || any test (drop (i + 1) xs)) ≡ answer
+  seen-more x lt read = go seen ∙ sym (at-read-more (λ ys. seen || any test ys) xs i x lt read) ∙ inv
+    where
+      go : (s : Bool) → ((s || test x) || any test (drop (i + 1) xs)) ≡ (s || (test x || any test (drop (i + 1) xs)))
+      go true = refl
+      go false = refl
+
+  pub seen-all : length xs ≤ i → seen ≡ answer
+  seen-all h = go seen ∙ sym (at-drop-all (λ ys. seen || any test ys) xs i h) ∙ inv
+    where
+      go : (s : Bool) → s ≡ (s || false)
+      go true = refl
+      go false = refl
+
+-- a loop that goes on while every one passes: what is left gives the answer
+module _ {X : Type 0} (test : X → Bool) (xs : List X) (i : ℕ) (answer : Bool) (inv : every test (drop i xs) ≡ answer) where
+  every-at : (x : X) → i < length xs → x ≡ getD xs i x → (t : Bool) → test x ≡ t → (t && every test (drop (i + 1) xs)) ≡ answer
+  every-at x lt read t is = ap (λ s. s && every test (drop (i + 1) xs)) (sym is) ∙ sym (at-read-more (every test) xs i x lt read) ∙ inv
+
+  pub every-more : (x : X) → i < length xs → x ≡ getD xs i x → test x ≡ true → every test (drop (i + 1) xs) ≡ answer
+  every-more x lt read = every-at x lt read true
+
+  pub every-miss : (x : X) → i < length xs → x ≡ getD xs i x → test x ≡ false → false ≡ answer
+  every-miss x lt read = every-at x lt read false
+
+  pub every-all : length xs ≤ i → true ≡ answer
+  every-all h = sym (at-drop-all (every test) xs i h) ∙ inv
 
 -- a loop that walks along the entries, at the state q: what is left gives the answer
 module _ {E : Type 0} (step : ℕ → E → Option ℕ) (entries : List E) (i q : ℕ) (answer : Result ℕ ℕ) (inv : walk step i q (drop i entries) ≡ answer) where

@@ -9,7 +9,7 @@ use lib.Dec.{ltb}
 use lib.ListN.{length}
 use Rattle.std.specs.shelf.Lists.{kept-by, joined, countBy}
 use Rattle.std.proofs.shelf.Lists.{length-map}
-use Rattle.std.proofs.shelf.Tests.{cases-eq, or-cases, or-left, or-right, and-parts, and-from, and-cases, both-ways, true≢false, false≢true, or-from, lt-ltb}
+use Rattle.std.proofs.shelf.Tests.{cases-eq, or-cases, or-left, or-right, and-parts, and-from, and-cases, both-ways, true≢false, false≢true, or-from, or-parts, lt-ltb}
 use Rattle.guards.specs.Lists.{Member, any, every, is-some}
 use Rattle.guards.proofs.Counting.{count-cons}
 use Rattle.machines.specs.Search.{NoRepeat}
@@ -121,6 +121,11 @@ module _ {X : Type 0} (test : X → Bool) where
   pub none-any : (xs : List X) → ((x : X) → Member x xs → test x ≡ false) → any test xs ≡ false
   none-any [] h = refl
   none-any (x ∷ xs) h = or-from (test x) (any test xs) (h x (inl refl)) (none-any xs (λ y m. h y (inr m)))
+
+  pub none-each : (x : X) (xs : List X) → any test xs ≡ false → Member x xs → test x ≡ false
+  none-each x [] h m = absurd m
+  none-each x (y ∷ xs) h (inl e) = ap test (sym e) ∙ or-parts (test y) (any test xs) h .0
+  none-each x (y ∷ xs) h (inr m) = none-each x xs (or-parts (test y) (any test xs) h .1) m
 
   pub any-some : (xs : List X) → any test xs ≡ true → (x : X) × Member x xs × (test x ≡ true)
   any-some [] h = absurd (false≢true h)

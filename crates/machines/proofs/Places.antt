@@ -9,6 +9,7 @@ use lib.Dec.{eqb}
 use lib.ListN.{length, getD}
 use Rattle.std.specs.shelf.Maps.{nth}
 use Rattle.std.specs.declared.option.Option.the-variants.{Some}
+use Rattle.std.proofs.shelf.Lists.{getD-default}
 use Rattle.std.proofs.shelf.Tests.{cases-bool, both-ways, cond-true, cond-false, eq-eqb, eqb-true}
 use Rattle.guards.specs.Lists.{Member}
 use Rattle.machines.specs.Search.{Tells, place-of, NoRepeat}
@@ -27,6 +28,10 @@ module _ {X : Type 0} where
   -- what was read at a place is a member
   pub member-read : (xs : List X) (i : ℕ) (x : X) → i < length xs → x ≡ getD xs i x → Member x xs
   member-read xs i x lt read = subst (λ (y : X). Member y xs) (sym read) (member-getD xs i x lt)
+
+  -- what was read by one default is read by itself
+  pub read-itself : (xs : List X) (i : ℕ) (d x : X) → i < length xs → x ≡ getD xs i d → x ≡ getD xs i x
+  read-itself xs i d x lt read = read ∙ getD-default xs i d x lt
 
 pub number-tells : Tells eqb
 number-tells = record { itself = λ n. eq-eqb n n refl; equal = eqb-true }

@@ -1,6 +1,6 @@
 -- What running a day means on a proper machine.
 use mathlib.Core.Path.{_≡_, ap, subst, _∙_}
-use mathlib.Core.Bool.{Bool, false, cond}
+use mathlib.Core.Bool.{Bool, true, false, cond}
 use mathlib.Core.List.{List, []}
 use Prim.Native.Nat.{ℕ, _<_}
 use native.Mathlib.Omega.{arith}
@@ -12,7 +12,7 @@ use Rattle.std.specs.declared.result.Result.{Result}
 use Rattle.std.specs.declared.result.Result.the-variants.{Ok, Err}
 use Rattle.std.proofs.shelf.Tests.{cond-false, le-ltb, leb-false, lt-leb, or-from, or-parts}
 use Rattle.guards.specs.Algebra.{Model, Laws}
-use Rattle.guards.specs.Lists.{any}
+use Rattle.guards.specs.Lists.{Member, any}
 use Rattle.machines.specs.Endings.{holds}
 use Rattle.machines.specs.Limits.{most-moves}
 use Rattle.machines.specs.Machine.{Machine, LeadsTo, Accepts, InRange}
@@ -24,7 +24,7 @@ use Rattle.machines.specs.declared.endings.Endings.{Endings}
 use Rattle.machines.specs.declared.moves.Move.{Move}
 use Rattle.machines.specs.declared.refusals.Refusal.{Refusal}
 use Rattle.machines.proofs.MachineRuns.{walk-day}
-use Rattle.machines.proofs.Members.{none-any}
+use Rattle.machines.proofs.Members.{none-any, none-each}
 
 -- a move that does not stray is between states
 pub between : {G : Type 0} (states : ℕ) (v : Move G) → stray states v ≡ false → (v .from < states) × (v .to < states)
@@ -36,6 +36,12 @@ between states v h =
 pub no-stray : {E G : Type 0} (alg : Model E G) (M : Machine G) → InRange alg M → any (stray (M .count)) (M .moves) ≡ false
 no-stray alg M inside =
     none-any (stray (M .count)) (M .moves) (λ v m. or-from _ _ (lt-leb (M .count) (v .from) (inside .from-in v m)) (lt-leb (M .count) (v .to) (inside .to-in v m)))
+
+-- and one without a stray move is in range, if its endings are
+pub in-range : {E G : Type 0} (alg : Model E G) (M : Machine G) → 0 < M .count → ((q : ℕ) → M .endings q ≡ true → q < M .count) → any (stray (M .count)) (M .moves) ≡ false → InRange alg M
+in-range {G = G} alg M some ends none =
+    let within : (v : Move G) → Member v (M .moves) → (v .from < M .count) × (v .to < M .count) = λ v m. between (M .count) v (none-each (stray (M .count)) v (M .moves) none m) in
+    record { some = some; endings-in = ends; from-in = λ v m. within v m .0; to-in = λ v m. within v m .1 }
 
 module _ {E G : Type 0} (alg : Model E G) (laws : Laws alg) (counts : Counts) (endings : Endings) (table : List (Move G)) (day : List E) where
   abbrev M : Machine G

@@ -1,26 +1,20 @@
 -- A node more in a tracked queue.
 use mathlib.Core.Path.{_≡_, refl, sym, ap, ap₂, subst, _∙_}
 use mathlib.Core.Bool.{Bool, true, false, not, _||_, cond}
-use mathlib.Core.List.{List, [], _∷_, _++_, map}
-use mathlib.Core.Logic.{_⊎_, inl, inr}
-use Prim.Native.Nat.{ℕ, zero, suc, _+_, _<_, _≤_}
+use mathlib.Core.List.{List, [], _∷_, _++_}
+use mathlib.Core.Logic.{inl, inr}
+use Prim.Native.Nat.{ℕ, suc, _+_, _<_, _≤_}
 use native.Mathlib.Omega.{arith}
 use native.Mathlib.Numerals.{add-one}
 use lib.Dec.{eqb}
-use lib.ListN.{length, getD, take, drop, set}
-use Rattle.std.specs.shelf.Lists.{kept-by}
-use Rattle.std.proofs.shelf.Lists.{take-more-set, length-take-le, length-set, at-drop-all}
-use Rattle.std.proofs.shelf.Tests.{cases-eq, cases-bool, both-ways, ne-eqb}
+use lib.ListN.{length, getD, take, set}
+use Rattle.std.proofs.shelf.Lists.{take-more-set, length-take-le, length-set}
+use Rattle.std.proofs.shelf.Tests.{cases-eq, both-ways, ne-eqb}
 use lib.Seq.{getD-set-same, getD-set-other}
-use Rattle.guards.specs.Algebra.{Model}
 use Rattle.guards.specs.Lists.{Member, any}
-use Rattle.machines.specs.Checking.{is-live}
-use Rattle.machines.specs.Search.{NoRepeat, Tells, place-of, add, add-all}
+use Rattle.machines.specs.Search.{NoRepeat, Tells, place-of, add}
 use Rattle.machines.specs.Tracking.{mark, Tracks, Queued, StateTracks}
-use Rattle.machines.specs.declared.moves.Move.{Move}
-use Rattle.machines.proofs.Loops.{at-read-more}
 use Rattle.machines.proofs.Members.{member-cases, no-repeat-push, some-any, pigeonhole, below, length-below, member-below}
-use Rattle.machines.proofs.Places.{member-getD}
 
 module _ {X : Type 0} (same : X → X → Bool) where
   any-push : (x y : X) (xs : List X) → any (same x) (xs ++ (y ∷ [])) ≡ (any (same x) xs || same x y)

@@ -2,21 +2,19 @@
 use mathlib.Core.Path.{_≡_, refl, sym, ap, _∙_}
 use mathlib.Core.Bool.{Bool, true, false, cond}
 use mathlib.Core.List.{List, _∷_, map}
-use mathlib.Core.Logic.{inl, inr}
-use Prim.Native.Nat.{ℕ, suc, _+_, _-_, _<_, _≤_}
+use Prim.Native.Nat.{ℕ, _+_, _-_, _<_, _≤_}
 use native.Mathlib.Omega.{arith}
 use lib.Dec.{eqb}
 use lib.ListN.{length, getD, take, drop, length-append}
 use Rattle.std.specs.shelf.Lists.{kept-by}
 use Rattle.std.proofs.shelf.Lists.{length-take-le, getD-take, getD-default, at-drop-all}
-use Rattle.std.proofs.shelf.Tests.{cases-bool, both-ways}
 use Rattle.guards.specs.Algebra.{Model}
 use Rattle.guards.specs.Lists.{any}
-use Rattle.machines.specs.Checking.{is-live, targets}
+use Rattle.machines.specs.Checking.{is-live}
 use Rattle.machines.specs.Search.{add, add-all, visit}
 use Rattle.machines.specs.declared.moves.Move.{Move}
 use Rattle.machines.proofs.Loops.{at-read-more}
-use Rattle.machines.proofs.Members.{some-any}
+use Rattle.machines.proofs.Members.{none-each}
 use Rattle.machines.proofs.Places.{member-read, number-tells}
 use Rattle.machines.proofs.Searching.{add-all-begins, visit-step, visit-done}
 
@@ -37,11 +35,7 @@ module _ {E G : Type 0} (alg : Model E G) (p : ℕ) (moves : List (Move G)) (fou
 
 -- where no move of the table strays, the one at a place does not
 pub none-at : {X : Type 0} (test : X → Bool) (xs : List X) (i : ℕ) (x : X) → any test xs ≡ false → i < length xs → x ≡ getD xs i x → test x ≡ false
-none-at test xs i x none lt read =
-    elim (cases-bool (test x)) [
-      | inl t ↦ absurd (both-ways (any test xs) none (some-any test x xs (member-read xs i x lt read) t))
-      | inr f ↦ f
-    ]
+none-at test xs i x none lt read = none-each test x xs none (member-read xs i x lt read)
 
 -- one turn of the loop that visits the found states
 module _ (successors : ℕ → List ℕ) (states visited : ℕ) (queue : List ℕ) (found : ℕ) (answer : List ℕ) (inv : visit eqb successors (states - visited) visited (take found queue) ≡ answer) (room : found ≤ length queue) where

@@ -1,4 +1,4 @@
--- Placing: the moves that a check writes, by the new numbers that the marks tell.
+-- Placing: the moves that a check writes, by the new numbers that the marks tell, and when they are those of the checked machine.
 use mathlib.Core.Path.{_≡_}
 use mathlib.Core.Bool.{Bool, true, false, cond}
 use mathlib.Core.List.{List, [], _∷_, _++_, map}
@@ -8,10 +8,13 @@ use lib.Dec.{eqb}
 use lib.ListN.{length, getD, take}
 use Rattle.std.specs.Options.{Cases}
 use Rattle.std.specs.declared.option.Option.{Option}
-use Rattle.std.specs.shelf.Lists.{kept-by}
+use Rattle.std.specs.shelf.Lists.{kept-by, joined}
 use Rattle.guards.specs.Algebra.{Model}
-use Rattle.guards.specs.Lists.{Member, is-some}
-use Rattle.machines.specs.Checking.{is-live, rest-of, rest-fits}
+use Rattle.guards.specs.Lists.{Member, any, every, is-some}
+use Rattle.machines.specs.Checking.{is-live, rest-of, rest-fits, order, checked, check-fits}
+use Rattle.machines.specs.Machine.{Machine}
+use Rattle.machines.specs.Search.{place-of}
+use Rattle.machines.specs.declared.clauses.Counts.{Counts}
 use Rattle.machines.specs.declared.completing.Placed.{Placed}
 use Rattle.machines.specs.declared.moves.Move.{Move}
 
@@ -60,3 +63,29 @@ module _ {E G : Type 0} (alg : Model E G) (vs : List (Move G)) where
 abbrev pub PlacedAs : {G : Type 0} → Bool → List (Move G) → Bool → List (Move G) → Option Placed → Type 0
 PlacedAs fits wanted sinks table r =
     Cases r ((fits ≡ false) ⊎ (length table < length wanted)) (λ d. (fits ≡ true) × (d .moves ≤ length table) × (take (d .moves) table ≡ wanted) × (d .sink ≡ sinks))
+
+-- what the states of the list place is the first of the table; whether one of them leaves a rest
+abbrev pub StatesPlaced : {E G : Type 0} → Model E G → List ℕ → List (Move G) → List ℕ → List (Move G) → Option Placed → Type 0
+StatesPlaced alg marks vs ps = PlacedAs (every (fits-at alg vs) ps) (joined (state-moves alg vs marks (length ps)) ps) (any (leaves alg vs) ps)
+
+-- the moves are the first of the table, and are those of so many states; or they have no room
+abbrev pub Counted : {G : Type 0} → ℕ → List (Move G) → List (Move G) → Option Counts → Type 0
+Counted states wanted table r = Cases r (length table < length wanted) (λ c. (c .states ≡ states) × (c .moves ≤ length table) × (take (c .moves) table ≡ wanted))
+
+-- the mark of each state of the list is one more than its place
+abbrev pub Numbers : List ℕ → List ℕ → Type 0
+Numbers marks ps = (p : ℕ) → Member p ps → (p < length marks) × (getD marks p 0 ≡ suc (place-of eqb p ps))
+
+module _ {E G : Type 0} (alg : Model E G) where
+  -- the live moves of the states of the list lead to states of the list
+  abbrev pub Closed : List (Move G) → List ℕ → Type 0
+  Closed vs ps = (p : ℕ) (v : Move G) → Member p ps → Member v vs → is-live alg p v ≡ true → Member (v .to) ps
+
+  -- the table has the moves of the checked machine, or that does not fit
+  abbrev pub Completed : Machine G → List (Move G) → Option Counts → Type 0
+  Completed M table r =
+      Cases r (check-fits alg M ≡ false) (λ c. (check-fits alg M ≡ true) × (c .states ≡ checked alg M .count) × (c .moves ≤ length table) × (take (c .moves) table ≡ checked alg M .moves))
+
+  -- so it is for each machine with these moves that reaches these states
+  abbrev pub Completes : List (Move G) → List ℕ → List (Move G) → Option Counts → Type 0
+  Completes vs ps table r = (M : Machine G) → M .moves ≡ vs → order alg M ≡ ps → Completed M table r

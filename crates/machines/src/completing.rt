@@ -1,19 +1,28 @@
 // Completing a clause: the moves of the reached states, under their new numbers, and what leads to the sink.
 ghost use lib.ListN.{length, take};
-ghost use mathlib.Core.Bool.{true, _||_};
-ghost use mathlib.Core.List.{_++_, map};
+ghost use mathlib.Core.Bool.{true, _||_, cond};
+ghost use mathlib.Core.List.{[], _∷_, _++_, map};
 ghost use mathlib.Core.Path.{_≡_};
-ghost use Prim.Native.Nat.{_≤_};
+ghost use Prim.Native.Nat.{ℕ, _+_, _≤_};
+ghost use Rattle.guards.specs.Lists.{Member};
 ghost use Rattle.machines.specs.Checking.{is-live};
 ghost use Rattle.machines.specs.Filled.{Filled};
-ghost use Rattle.machines.specs.Limits.{most-parts};
-ghost use Rattle.machines.specs.Placing.{Marked, TargetsMarked, PlacedAs, fits-at, leaves, line-moves, moved-by, number-by, state-moves, sunk-from};
+ghost use Rattle.machines.specs.Limits.{most-moves, most-parts, most-written};
+ghost use Rattle.machines.specs.Placing.{Closed, Completes, Counted, Marked, Numbers, PlacedAs, StatesPlaced, TargetsMarked, fits-at, leaves, line-moves, moved-by, number-by, state-moves, sunk-from};
 ghost use Rattle.std.specs.shelf.Lists.{kept-by};
 use crate::buffers::push;
+use crate::clauses::Counts;
 use crate::moves::Move;
 use crate::rests::is_live;
 use crate::rests::put_rest;
 use guards::algebra::Algebra;
+
+// What was placed so far: how many moves, and whether one leads to the sink.
+#[derive(Clone, Copy)]
+struct Placed {
+    moves: usize,
+    sink: bool,
+}
 
 // The new number of a reached state, by its mark.
 fn number_of(marks: &[u8], state: usize) -> usize
@@ -100,13 +109,6 @@ fn place_rest<G: Copy>(
     Some(filled)
 }
 
-// What was placed so far: how many moves, and whether one leads to the sink.
-#[derive(Clone, Copy)]
-struct Placed {
-    moves: usize,
-    sink: bool,
-}
-
 // Places the live moves of a reached state and then its rest; None where the rest or the moves have no room.
 fn place_state<A: Algebra>(
     alg: &A,
@@ -132,4 +134,80 @@ fn place_state<A: Algebra>(
         moves: placed,
         sink: done.sink | (left > 0),
     })
+}
+
+// Places what each reached state places, in their order; None where a rest or the moves have no room.
+fn place_states<A: Algebra>(
+    alg: &A,
+    moves: &[Move<A::Guard>],
+    order: &[u8],
+    marks: &[u8],
+    list: &mut [A::Guard],
+    other: &mut [A::Guard],
+    spare: &mut [Move<A::Guard>],
+) -> Option<Placed>
+    requires sizes { ⌜ length (now list) ≡ most-parts ⌝ ∗ ⌜ length (now other) ≡ most-parts ⌝ }
+    requires marked { ⌜ ((p : ℕ) → Member p (now order) → Marked (now marks) p × TargetsMarked (model (now alg)) (now moves) p (now marks)) ⌝ }
+    ensures { λ r. ⌜ StatesPlaced (model (now (alg .entry))) (now (marks .entry)) (now (moves .entry)) (now (order .entry)) (now (spare .exit)) r ⌝ }
+{
+    let sink = order.len();
+    let mut done = Placed {
+        moves: 0,
+        sink: false,
+    };
+    for found in order {
+        let state = usize::from(*found);
+        done = place_state(alg, moves, state, sink, marks, list, other, spare, done)?;
+    }
+    Some(done)
+}
+
+// Places the sink's own move, if a move leads to the sink; None where it has no room.
+fn place_sink<A: Algebra>(
+    alg: &A,
+    states: usize,
+    spare: &mut [Move<A::Guard>],
+    done: Placed,
+) -> Option<Counts>
+    requires { ⌜ states ≤ most-written ⌝ ∗ ⌜ done .moves ≤ length (now spare) ⌝ }
+    ensures { λ r. ⌜ Counted (states + cond (done .sink) 1 0) (take (done .moves) (now (spare .entry)) ++ cond (done .sink) (sunk-from states states (model (now (alg .entry)) .whole) ∷ []) []) (now (spare .exit)) r ⌝ }
+{
+    if !done.sink {
+        return Some(Counts {
+            states,
+            moves: done.moves,
+        });
+    }
+    let line = Move {
+        from: states,
+        guard: alg.whole(),
+        to: states,
+    };
+    let moves = push(spare, done.moves, line)?;
+    Some(Counts {
+        states: states + 1,
+        moves,
+    })
+}
+
+// Writes the moves of the completed clause into the spare table and gives its counts; None where a rest or the moves have no
+// room. The order holds the reached states, and the marks tell their places.
+pub(crate) fn complete<A: Algebra>(
+    alg: &A,
+    moves: &[Move<A::Guard>],
+    order: &[u8],
+    marks: &[u8],
+    list: &mut [A::Guard],
+    other: &mut [A::Guard],
+    spare: &mut [Move<A::Guard>],
+) -> Option<Counts>
+    requires sizes { ⌜ length (now list) ≡ most-parts ⌝ ∗ ⌜ length (now other) ≡ most-parts ⌝ }
+    requires room { ⌜ length (now spare) ≡ most-moves ⌝ }
+    requires few { ⌜ length (now order) ≤ most-written ⌝ }
+    requires numbers { ⌜ Numbers (now marks) (now order) ⌝ }
+    requires closed { ⌜ Closed (model (now alg)) (now moves) (now order) ⌝ }
+    ensures { λ r. ⌜ Completes (model (now (alg .entry))) (now (moves .entry)) (now (order .entry)) (now (spare .exit)) r ⌝ }
+{
+    let placed = place_states(alg, moves, order, marks, list, other, spare)?;
+    place_sink(alg, order.len(), spare, placed)
 }

@@ -17,7 +17,7 @@ fn is_stray<G>(line: &Move<G>, states: usize) -> bool
 }
 
 // Whether a move names a state that is not below the count.
-fn has_stray<G>(moves: &[Move<G>], states: usize) -> bool
+pub(super) fn has_stray<G>(moves: &[Move<G>], states: usize) -> bool
     ensures { λ r. ⌜ r ≡ any (stray states) (now (moves .entry)) ⌝ }
 {
     for line in moves {

@@ -2,8 +2,7 @@ use mathlib.Core.Bool.{_||_}
 use mathlib.Core.Logic.{inr}
 use mathlib.Core.Path.{ap, subst, _∙_}
 use Prim.Native.Nat.{_<_}
-use lib.ListN.{length, take}
-use Rattle.machines.specs.Placing.{leaves}
+use lib.ListN.{length}
 use Rattle.machines.proofs.Placing.{unplaced, some-taken, state-built, state-short}
 use Rattle.machines.proofs.completing.place_state.Needs as need
 
