@@ -4,6 +4,8 @@ mod checking;
 #[cfg(test)]
 mod checking_cases;
 #[cfg(test)]
+mod checking_limits;
+#[cfg(test)]
 mod clauses;
 #[cfg(test)]
 mod flags;
