@@ -22,13 +22,13 @@ use machines::refusals::Refused;
 use std::test::*;
 
 // A move of numbers that make no guard, between states that no sheet has.
-const GARBAGE: Move<MinuteRow> = Move {
+pub(crate) const GARBAGE: Move<MinuteRow> = Move {
     from: 99,
     guard: MinuteRow { first: 9, last: 1 },
     to: 1000,
 };
 
-fn whole_move(from: usize, to: usize) -> Move<MinuteRow> {
+pub(crate) fn whole_move(from: usize, to: usize) -> Move<MinuteRow> {
     Move {
         from,
         guard: Minutes.whole(),

@@ -1,5 +1,11 @@
 // Examples that are run: tables of questions to the libraries, with their answers.
 #[cfg(test)]
+mod checking;
+#[cfg(test)]
+mod checking_cases;
+#[cfg(test)]
+mod checking_limits;
+#[cfg(test)]
 mod clauses;
 #[cfg(test)]
 mod flags;
