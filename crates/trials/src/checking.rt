@@ -1,9 +1,7 @@
-// Checking a clause, over minutes alone: what it makes, and what it refuses for the moves.
+// How clauses over minutes are written and checked on examples: what a check makes, and what a refused one leaves.
 use crate::clauses::GARBAGE;
 use crate::clauses::whole_move;
-use guards::algebra::Algebra;
 use guards::minutes::MinuteRow;
-use guards::minutes::MinuteRowDebug;
 use guards::minutes::MinuteRowPartialEq;
 use guards::minutes::Minutes;
 use guards::minutes::MinutesAlgebra;
@@ -17,7 +15,6 @@ use machines::limits::MARKS;
 use machines::limits::MOVES;
 use machines::limits::PARTS;
 use machines::moves::Move;
-use machines::moves::MoveDebug;
 use machines::moves::MovePartialEq;
 use machines::refusals::Refusal;
 use machines::refusals::RefusalDebug;

@@ -1,4 +1,5 @@
 // The limits of checking a clause, over minutes alone: states, moves, rest lists and sizes.
+use crate::checking::Left;
 use crate::checking::check_in;
 use crate::checking::line;
 use crate::checking::makes;
@@ -6,16 +7,15 @@ use crate::checking::refuses;
 use crate::clauses::GARBAGE;
 use crate::clauses::whole_move;
 use guards::minutes::MinuteRow;
-use guards::minutes::MinuteRowDebug;
 use guards::minutes::MinuteRowPartialEq;
 use guards::minutes::Minutes;
 use guards::minutes::MinutesAlgebra;
+use machines::clauses::Counts;
 use machines::clauses::OpenClause;
 use machines::limits::MARKS;
 use machines::limits::MOVES;
 use machines::limits::PARTS;
 use machines::moves::Move;
-use machines::moves::MoveDebug;
 use machines::moves::MovePartialEq;
 use machines::refusals::Refusal;
 use machines::refusals::RefusalDebug;
@@ -104,12 +104,8 @@ fn stages_of_a_rest() -> Result<(), Fail> {
     makes((2, 0, &lines), (1, 0, &[whole_move(0, 0)]))
 }
 
-// A check of a clause without moves, with lengths of table, spare table, marks and part lists.
-fn check_lengths(
-    lengths: [usize; 5],
-    wanted: Option<Refusal<u16>>,
-    front: Move<MinuteRow>,
-) -> Result<(), Fail> {
+// What a check of a clause without moves leaves, with lengths of table, spare table, marks and part lists.
+fn check_cut(table: &mut [Move<MinuteRow>], lengths: [usize; 5]) -> Result<Left, Fail> {
     let [
         table_length,
         spare_length,
@@ -117,7 +113,6 @@ fn check_lengths(
         parts_length,
         others_length,
     ] = lengths;
-    let mut table = [GARBAGE; MOVES + 1];
     let mut spare = [GARBAGE; MOVES + 1];
     check(spare_length <= spare.len())?;
     let spare = &mut spare[0..spare_length];
@@ -131,27 +126,42 @@ fn check_lengths(
     check(others_length <= others.len())?;
     let others = &mut others[0..others_length];
     check(table_length <= table.len())?;
-    let cut = &mut table[0..table_length];
+    let table = &mut table[0..table_length];
     let clause = OpenClause::open(&Minutes);
-    let left = check_in(clause, cut, spare, marks, parts, others);
-    check_eq(left.refusal, wanted)?;
-    check_eq(table[0], front)?;
-    check_eq(table[2], GARBAGE)
+    Ok(check_in(clause, table, spare, marks, parts, others))
 }
 
-// Each table and buffer has its least size.
+// The check passes, or is refused as too short and leaves clause and table.
+fn sizes_fit(lengths: [usize; 5], fit: bool) -> Result<(), Fail> {
+    let mut table = [GARBAGE; MOVES + 1];
+    let left = check_cut(&mut table, lengths)?;
+    let mut wanted = [GARBAGE; MOVES + 1];
+    let Counts { states, moves } = left.counts;
+    if fit {
+        wanted[0] = whole_move(0, 1);
+        wanted[1] = whole_move(1, 1);
+        check_eq((left.refusal, states, moves), (None, 2, 2))?;
+    } else {
+        check_eq(
+            (left.refusal, states, moves),
+            (Some(Refusal::TooShort), 1, 0),
+        )?;
+    }
+    check(table == wanted)
+}
+
 #[test]
 fn least_sizes() -> Result<(), Fail> {
     let exact = [MOVES, MOVES, MARKS, PARTS, PARTS];
-    check_lengths(exact, None, whole_move(0, 1))?;
+    sizes_fit(exact, true)?;
     for place in 0..5 {
         let mut lengths = exact;
-        lengths[place] = exact[place] - 1;
-        check_lengths(lengths, Some(Refusal::TooShort), GARBAGE)?;
-        lengths[place] = 0;
-        check_lengths(lengths, Some(Refusal::TooShort), GARBAGE)?;
         lengths[place] = exact[place] + 1;
-        check_lengths(lengths, None, whole_move(0, 1))?;
+        sizes_fit(lengths, true)?;
+        lengths[place] = exact[place] - 1;
+        sizes_fit(lengths, false)?;
+        lengths[place] = 0;
+        sizes_fit(lengths, false)?;
     }
     Ok(())
 }
