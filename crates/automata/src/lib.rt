@@ -1,4 +1,6 @@
 // What the theory of machines and its code share: moves, pairs of states, the ways of joining, refusals and limits.
+#![tactic(auto)]
+
 pub mod joins;
 pub mod limits;
 pub mod moves;

@@ -1,4 +1,6 @@
 // Algebras of guards: sets of entries, each described by a small value.
+#![tactic(auto)]
+
 pub mod activity;
 pub mod algebra;
 pub mod cases;

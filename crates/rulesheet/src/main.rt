@@ -1,4 +1,6 @@
 // Reads order records from standard input, applies them to a new sheet, and prints which are refused and the rule that stands.
+#![tactic(auto)]
+
 ghost use Rattle.std.specs.Prelude.{◌≤◌, length, IfOk};
 
 use automata::limits::MOVES;

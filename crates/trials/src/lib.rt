@@ -1,4 +1,6 @@
 // Tables of questions to the libraries, with their answers: the worked cases are proved, the other examples run.
+#![tactic(auto)]
+
 #[cfg(test)]
 mod checking;
 #[cfg(test)]
