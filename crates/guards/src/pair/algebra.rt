@@ -10,7 +10,7 @@ use crate::algebra::Algebra;
 
 // How many parts `a` without `b` has, or `most` where there are more.
 fn count_parts<L: Algebra>(alg: &L, a: L::Guard, b: L::Guard, most: usize) -> usize
-    ensures { result ≡ min (length ((model alg.now).parts a b)) most }
+    ensures { result ≡ min (length ((L.model alg.now).parts a b)) most }
 {
     for k in 0..most {
         if alg.rest(a, b, k).is_none() {
@@ -22,7 +22,7 @@ fn count_parts<L: Algebra>(alg: &L, a: L::Guard, b: L::Guard, most: usize) -> us
 
 // Whether the guard admits something.
 fn is_live<L: Algebra>(alg: &L, guard: L::Guard) -> bool
-    ensures { result ≡ is_some ((model alg.now).sample guard) }
+    ensures { result ≡ is_some ((L.model alg.now).sample guard) }
 {
     alg.sample(guard).is_some()
 }

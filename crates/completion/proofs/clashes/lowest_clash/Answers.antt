@@ -16,7 +16,7 @@ pub loop-place-preserved : goal.loop-place-preserved
 loop-place-preserved g c =
     let m = g.A.Algebra.model c.args.alg.now in
     asked_more (λ i u. option_map (λ p. (i, p.0, p.1)) (second_clash m u (i + 1) (drop (i + 1) c.args.moves.now))) c.args.moves.now c.loop-place.place _ c.loop-place.invariant
-    c.index-moves-place.result c.loop-place-test.true c.index-moves-place.is (sym c.in-default.ensures)
+    c.index-moves-place.result c.loop-place-test.true c.index-moves-place.is (sym c.in_default.ensures)
 
 pub returns : goal.returns
 returns g c =

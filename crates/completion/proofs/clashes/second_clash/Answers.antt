@@ -14,7 +14,7 @@ pub loop-place-preserved : goal.loop-place-preserved
 loop-place-preserved g c =
     let m = g.A.Algebra.model c.args.alg.now in
     asked_more (λ j v. option_map (λ e. (j, e)) (clash m c.args.first.now v)) c.args.moves.now c.loop-place.place _ c.loop-place.invariant c.index-moves-place.result
-    c.loop-place-test.true c.index-moves-place.is (ap (option_map (λ e. (c.loop-place.place, e))) (sym c.in-default.ensures))
+    c.loop-place-test.true c.index-moves-place.is (ap (option_map (λ e. (c.loop-place.place, e))) (sym c.in_default.ensures))
 
 pub returns : goal.returns
 returns g c =

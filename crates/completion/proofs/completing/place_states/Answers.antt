@@ -7,8 +7,8 @@ use Rattle.automata.proofs.Places.{member_read, read_itself}
 use Rattle.completion.proofs.Placing.{unplaced}
 use Rattle.completion.proofs.completing.place_states.Goals as goal
 
-pub place-state-requires : goal.place-state-requires
-place-state-requires g c =
+pub place_state-requires : goal.place_state-requires
+place_state-requires g c =
     let read = read_itself c.args.order.now c.loop-found.found-index 0 c.from-state.result c.loop-found-test.true c.from-state.ensures in
     record {
       sizes = (omega (arith, c.requires.sizes.0), omega (arith, c.requires.sizes.1));
@@ -16,11 +16,11 @@ place-state-requires g c =
       room = c.loop-found.invariant.0;
     }
 
-pub returns-in-err-done : goal.returns-in-err-done
-returns-in-err-done g c =
+pub returns-in_err-done : goal.returns-in_err-done
+returns-in_err-done g c =
     let m = g.A.Algebra.model c.args.alg.now in
     let read = read_itself c.args.order.now c.loop-found.found-index 0 c.from-state.result c.loop-found-test.true c.from-state.ensures in
-    unplaced _ _ _ _ _ c.from-residual.ensures (elim c.in-err-done.ensures [
+    unplaced _ _ _ _ _ c.from_residual.ensures (elim c.in_err-done.ensures [
       | inl miss ↦ inl (sym (every_miss (fits_at m c.args.moves.now) c.args.order.now c.loop-found.found-index _ c.loop-found.invariant.2 c.from-state.result c.loop-found-test.true read miss))
       | inr short ↦ inr (append_short (state_moves m c.args.moves.now c.args.marks.now (length c.args.order.now)) [] c.args.order.now c.loop-found.found-index _ c.loop-found.invariant.1 c.from-state.result _ c.loop-found-test.true read short)
     ])
@@ -28,7 +28,7 @@ returns-in-err-done g c =
 pub loop-found-preserved : goal.loop-found-preserved
 loop-found-preserved g c =
     let m = g.A.Algebra.model c.args.alg.now in
-    let made = c.in-ok-done.ensures in
+    let made = c.in_ok-done.ensures in
     let i = c.loop-found.found-index in
     let read = read_itself c.args.order.now i 0 c.from-state.result c.loop-found-test.true c.from-state.ensures in (
       made.1,

@@ -7,14 +7,14 @@ use Rattle.automata.proofs.Tracked.{queued_tracks, tracked_few, tracks_none}
 use Rattle.automata.proofs.Visits.{visit_more, visit_grows, visit_all}
 use Rattle.completion.proofs.reaching.reach.Goals as goal
 
-pub add-new-found-requires : goal.add-new-found-requires
-add-new-found-requires g c = record { place_in = omega (arith, c.requires.sizes.0); room = omega (arith, c.requires.sizes.1); small = omega arith }
+pub add_new-found-requires : goal.add_new-found-requires
+add_new-found-requires g c = record { place_in = omega (arith, c.requires.sizes.0); room = omega (arith, c.requires.sizes.1); small = omega arith }
 
 pub loop-visited-init : goal.loop-visited-init
 loop-visited-init g c =
     let m = g.A.Algebra.model c.args.alg.now in
     let added = queued_tracks eqb number_tells (λ p. p) _ (λ x y i j e. e) c.clear.new.marks c.args.queue.now 0 (tracks_none c.args.states c.clear.new.marks c.args.queue.now c.clear.ensures) 0 c.requires.some
-    (omega (arith, c.requires.sizes.0)) (omega (arith, c.requires.sizes.1)) _ _ _ c.add-new-found.ensures in
+    (omega (arith, c.requires.sizes.0)) (omega (arith, c.requires.sizes.1)) _ _ _ c.add_new-found.ensures in
     let fuel : c.args.states - 0 ≡ c.args.states = omega arith in
     (added.0, omega arith, ap (visit eqb (targets m c.args.moves.now) (c.args.states - 0) 0) added.1 ∙ ap (λ n. visit eqb (targets m c.args.moves.now) n 0 (0 ∷ [])) fuel)
 

@@ -4,24 +4,24 @@ use Rattle.guards.proofs.Places.{nth_within, nth_beyond}
 use Rattle.automata.proofs.Appending.{no_room, pushed_length, nth_more}
 use Rattle.completion.proofs.rests.put_parts.Goals as goal
 
-pub returns-in-err-filled : goal.returns-in-err-filled
-returns-in-err-filled g c =
+pub returns-in_err-filled : goal.returns-in_err-filled
+returns-in_err-filled g c =
     let ps = (g.A.Algebra.model c.args.alg.now).parts c.args.a c.args.b in
     let within : c.loop-part.number < length ps = nth_within ps c.loop-part.number (ap is_some (sym c.in-Some.ensures)) in
-    no_room _ _ _ c.from-residual.ensures
+    no_room _ _ _ c.from_residual.ensures
     (omega (
       arith,
       within,
-      c.in-err-filled.ensures,
+      c.in_err-filled.ensures,
       length-append (take c.loop-part.filled c.loop-part.out) (c.in-Some.part ∷ []),
       length-take-le c.loop-part.filled c.loop-part.out c.loop-part.invariant.0,
       length-append (take c.args.count c.args.out.now) ps,
       length-take-le c.args.count c.args.out.now c.requires,
     ))
 
-pub overflow-add-number : goal.overflow-add-number
-overflow-add-number g c =
-    let made = c.in-ok-filled.ensures in
+pub overflow_add-number : goal.overflow_add-number
+overflow_add-number g c =
+    let made = c.in_ok-filled.ensures in
     let longer = pushed_length _ _ _ _ c.in-Some.part c.loop-part.invariant.0 made.0 made.1 in
     search rules
 
@@ -33,7 +33,7 @@ pub loop-part-preserved : goal.loop-part-preserved
 loop-part-preserved g c =
     let ps = (g.A.Algebra.model c.args.alg.now).parts c.args.a c.args.b in
     let front = take c.args.count c.args.out.now in
-    let made = c.in-ok-filled.ensures in
+    let made = c.in_ok-filled.ensures in
     let longer = pushed_length _ _ _ _ c.in-Some.part c.loop-part.invariant.0 made.0 made.1 in
     let within : c.loop-part.number < length ps = nth_within ps c.loop-part.number (ap is_some (sym c.in-Some.ensures)) in (
       made.0,
@@ -46,4 +46,4 @@ loop-part-preserved g c =
 pub returns : goal.returns
 returns g c =
     let ps = (g.A.Algebra.model c.args.alg.now).parts c.args.a c.args.b in
-    (c.loop-part.invariant.0, c.loop-part.invariant.3 ∙ ap (λ ys. take c.args.count c.args.out.now ++ ys) (take_all c.loop-part.number ps (nth_beyond ps c.loop-part.number (ap is_some (sym c.in-default.ensures)))))
+    (c.loop-part.invariant.0, c.loop-part.invariant.3 ∙ ap (λ ys. take c.args.count c.args.out.now ++ ys) (take_all c.loop-part.number ps (nth_beyond ps c.loop-part.number (ap is_some (sym c.in_default.ensures)))))

@@ -31,13 +31,13 @@ complete-requires g c =
           (reached_closed m (g.met.A.Algebra.lawful c.args.alg.now) _ states c.requires.within.0 (ap (λ n. any (stray states) (take n c.args.table.now)) all ∙ c.requires.no_stray));
     }
 
-pub returns-in-err-checked : goal.returns-in-err-checked
-returns-in-err-checked g c =
+pub returns-in_err-checked : goal.returns-in_err-checked
+returns-in_err-checked g c =
     let m = g.A.Algebra.model c.args.alg.now in
     let all : c.args.counts.moves - 0 ≡ c.args.counts.moves = omega arith in
     let found : c.reach-found.result - 0 ≡ c.reach-found.result = omega arith in
-    not_made m (machine c.args.counts c.args.endings c.args.table.now) _ _ c.from-residual.ensures
-    (c.in-err-checked.ensures (machine c.args.counts c.args.endings c.args.table.now) (ap (λ n. take n c.args.table.now) (sym all))
+    not_made m (machine c.args.counts c.args.endings c.args.table.now) _ _ c.from_residual.ensures
+    (c.in_err-checked.ensures (machine c.args.counts c.args.endings c.args.table.now) (ap (λ n. take n c.args.table.now) (sym all))
     (ap (λ n. reached eqb (targets m (take n c.args.table.now)) c.args.counts.states 0) (sym all) ∙ sym c.reach-found.ensures.1 ∙ ap (λ n. take n c.reach-found.new.queue) (sym found)))
 
 pub returns : goal.returns
@@ -49,7 +49,7 @@ returns g c =
     let queue = c.reach-found.new.queue in
     let few = tracked_few c.args.counts.states c.reach-found.new.marks queue c.reach-found.result tracks in
     let ordered = ap (λ n. reached eqb (targets m (take n c.args.table.now)) c.args.counts.states 0) (sym all) ∙ sym c.reach-found.ensures.1 ∙ ap (λ n. take n c.reach-found.new.queue) (sym found) in
-    made m (machine c.args.counts c.args.endings c.args.table.now) c.in-ok-checked.checked c.reordered.result c.complete.new.spare
-    (c.in-ok-checked.ensures (machine c.args.counts c.args.endings c.args.table.now) (ap (λ n. take n c.args.table.now) (sym all)) ordered)
+    made m (machine c.args.counts c.args.endings c.args.table.now) c.in_ok-checked.checked c.reordered.result c.complete.new.spare
+    (c.in_ok-checked.ensures (machine c.args.counts c.args.endings c.args.table.now) (ap (λ n. take n c.args.table.now) (sym all)) ordered)
     (λ k. c.reordered.ensures k ∙ ap (λ ps. get_or (map (holds c.args.endings) ps) k false) (sym ordered))
     (omega (arith, ap length ordered, ap (λ n. length (take n queue)) found, few, c.requires.within.1, length-take-le c.reach-found.result queue tracks.room))

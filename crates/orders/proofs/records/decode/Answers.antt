@@ -8,8 +8,8 @@ use Rattle.orders.proofs.records.decode.Goals as goal
 
 pub returns : goal.returns
 returns c =
-    let e : c.ok-or.result ≡ decoded c.args.bytes.now = c.ok-or.ensures.value ∙ ap (λ o. ok_or o OutOfPlace) c.asked-order.ensures in
+    let e : c.ok_or.result ≡ decoded c.args.bytes.now = c.ok_or.ensures.value ∙ ap (λ o. ok_or o OutOfPlace) c.asked_order.ensures in
     record {
       value = e;
-      meaning = subst (λ (r : Answer). Meaning c.args.bytes.now r) (sym e) (decoded_means c.args.bytes.now (λ i. omega (arith, c.type-inv.bytes i)));
+      meaning = subst (λ (r : Answer). Meaning c.args.bytes.now r) (sym e) (decoded_means c.args.bytes.now (λ i. omega (arith, c.type_inv.bytes i)));
     }

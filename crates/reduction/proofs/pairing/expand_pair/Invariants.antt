@@ -6,9 +6,9 @@ use Rattle.reduction.specs.Pairing.{of_meets, PairTracks}
 use Rattle.reduction.proofs.pairing.expand_pair.Given as goal
 
 -- what the moves that are left add is the answer
-abbrev pub invariant-loop-rule-line : goal.invariant-loop-rule-line
-invariant-loop-rule-line g l =
-    let next = of_meets (g.A.Algebra.model l.alg) (λ a. a.to) l.clause-moves l.pair in
+abbrev pub invariant-loop-rule_line : goal.invariant-loop-rule_line
+invariant-loop-rule_line g l =
+    let next = of_meets (g.A.Algebra.model l.alg) (λ a. a.to) l.clause_moves l.pair in
     PairTracks l.marks l.pairs l.found
-    × (add_all same_pair (take l.found l.pairs) (flat_map next (drop l.rule-line-index l.rule-moves))
-    ≡ add_all same_pair (take l.count l.initial.pairs) (flat_map next l.rule-moves))
+    × (add_all same_pair (take l.found l.pairs) (flat_map next (drop l.rule_line-index l.rule_moves))
+    ≡ add_all same_pair (take l.count l.initial.pairs) (flat_map next l.rule_moves))

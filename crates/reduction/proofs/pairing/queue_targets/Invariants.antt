@@ -6,9 +6,9 @@ use Rattle.reduction.specs.Pairing.{of_meet, PairTracks}
 use Rattle.reduction.proofs.pairing.queue_targets.Given as goal
 
 -- what the moves that are left add is the answer
-abbrev pub invariant-loop-clause-line : goal.invariant-loop-clause-line
-invariant-loop-clause-line g l =
-    let next = of_meet (g.A.Algebra.model l.alg) (λ a. a.to) l.pair l.rule-line in
+abbrev pub invariant-loop-clause_line : goal.invariant-loop-clause_line
+invariant-loop-clause_line g l =
+    let next = of_meet (g.A.Algebra.model l.alg) (λ a. a.to) l.pair l.rule_line in
     PairTracks l.marks l.pairs l.found
-    × (add_all same_pair (take l.found l.pairs) (flat_map next (drop l.clause-line-index l.clause-moves))
-    ≡ add_all same_pair (take l.count l.initial.pairs) (flat_map next l.clause-moves))
+    × (add_all same_pair (take l.found l.pairs) (flat_map next (drop l.clause_line-index l.clause_moves))
+    ≡ add_all same_pair (take l.count l.initial.pairs) (flat_map next l.clause_moves))

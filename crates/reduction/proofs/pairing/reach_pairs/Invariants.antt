@@ -8,7 +8,7 @@ use Rattle.reduction.proofs.pairing.reach_pairs.Given as goal
 -- what visiting the pairs that are left finds is the answer
 abbrev pub invariant-loop-visited : goal.invariant-loop-visited
 invariant-loop-visited g l =
-    let next = pair_targets (g.A.Algebra.model l.alg) l.rule-moves l.clause-moves in
+    let next = pair_targets (g.A.Algebra.model l.alg) l.rule_moves l.clause_moves in
     PairTracks l.marks l.pairs l.found
     × (l.visited ≤ l.found)
     × (visit same_pair next (mark_bytes - l.visited) l.visited (take l.found l.pairs) ≡ reached same_pair next mark_bytes start_pair)

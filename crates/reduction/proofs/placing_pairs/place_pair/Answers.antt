@@ -8,42 +8,42 @@ use Rattle.reduction.specs.Pairing.{numbered_by, of_meets}
 use Rattle.reduction.proofs.PairQueues.{meets_joined}
 use Rattle.reduction.proofs.placing_pairs.place_pair.Goals as goal
 
-pub loop-rule-line-init : goal.loop-rule-line-init
-loop-rule-line-init g c = (c.requires.room, sym (append-nil (take c.args.count c.args.spare.now)))
+pub loop-rule_line-init : goal.loop-rule_line-init
+loop-rule_line-init g c = (c.requires.room, sym (append-nil (take c.args.count c.args.spare.now)))
 
-pub place-meets-requires : goal.place-meets-requires
-place-meets-requires g c =
-    let here = member_read c.args.rule-moves.now c.loop-rule-line.rule-line-index c.rule-line-item.result c.loop-rule-line-test.true c.rule-line-item.is in
+pub place_meets-requires : goal.place_meets-requires
+place_meets-requires g c =
+    let here = member_read c.args.rule_moves.now c.loop-rule_line.rule_line-index c.rule_line-item.result c.loop-rule_line-test.true c.rule_line-item.is in
     record {
-      marked = λ u v m k t. elim m [ inl e ↦ c.requires.marked.1 u v (subst (λ w. Member w c.args.rule-moves.now) e here) k t | inr none ↦ absurd none ];
-      room = c.loop-rule-line.invariant.0;
+      marked = λ u v m k t. elim m [ inl e ↦ c.requires.marked.1 u v (subst (λ w. Member w c.args.rule_moves.now) e here) k t | inr none ↦ absurd none ];
+      room = c.loop-rule_line.invariant.0;
     }
 
-pub returns-in-err-filled : goal.returns-in-err-filled
-returns-in-err-filled g c =
+pub returns-in_err-filled : goal.returns-in_err-filled
+returns-in_err-filled g c =
     let m = g.A.Algebra.model c.args.alg.now in
     let front = take c.args.count c.args.spare.now in
-    let number = numbered_by c.args.marks.now c.pair-number-from.result in
-    let place = of_meets m number c.args.clause-moves.now c.args.pair in
-    let moves = pair_moves m c.args.rule-moves.now c.args.clause-moves.now c.args.pair in
-    no_room _ _ _ c.from-residual.ensures
-    (subst (λ ys. length c.place-meets.new.spare < length (front ++ ys)) (meets_joined m number c.args.clause-moves.now c.args.pair c.args.rule-moves.now ∙ ap (λ n. map (numbered_by c.args.marks.now n) moves) c.pair-number-from.ensures)
-    (append_short place front c.args.rule-moves.now c.loop-rule-line.rule-line-index _ c.loop-rule-line.invariant.1 c.rule-line-item.result _ c.loop-rule-line-test.true c.rule-line-item.is c.in-err-filled.ensures))
+    let number = numbered_by c.args.marks.now c.pair_number-from.result in
+    let place = of_meets m number c.args.clause_moves.now c.args.pair in
+    let moves = pair_moves m c.args.rule_moves.now c.args.clause_moves.now c.args.pair in
+    no_room _ _ _ c.from_residual.ensures
+    (subst (λ ys. length c.place_meets.new.spare < length (front ++ ys)) (meets_joined m number c.args.clause_moves.now c.args.pair c.args.rule_moves.now ∙ ap (λ n. map (numbered_by c.args.marks.now n) moves) c.pair_number-from.ensures)
+    (append_short place front c.args.rule_moves.now c.loop-rule_line.rule_line-index _ c.loop-rule_line.invariant.1 c.rule_line-item.result _ c.loop-rule_line-test.true c.rule_line-item.is c.in_err-filled.ensures))
 
-pub loop-rule-line-preserved : goal.loop-rule-line-preserved
-loop-rule-line-preserved g c =
-    let place = of_meets (g.A.Algebra.model c.args.alg.now) (numbered_by c.args.marks.now c.pair-number-from.result) c.args.clause-moves.now c.args.pair in
-    let made = c.in-ok-filled.ensures in
-    (made.0, made.1 ∙ append_more place (take c.args.count c.args.spare.now) c.args.rule-moves.now c.loop-rule-line.rule-line-index _ c.loop-rule-line.invariant.1 c.rule-line-item.result c.loop-rule-line-test.true c.rule-line-item.is)
+pub loop-rule_line-preserved : goal.loop-rule_line-preserved
+loop-rule_line-preserved g c =
+    let place = of_meets (g.A.Algebra.model c.args.alg.now) (numbered_by c.args.marks.now c.pair_number-from.result) c.args.clause_moves.now c.args.pair in
+    let made = c.in_ok-filled.ensures in
+    (made.0, made.1 ∙ append_more place (take c.args.count c.args.spare.now) c.args.rule_moves.now c.loop-rule_line.rule_line-index _ c.loop-rule_line.invariant.1 c.rule_line-item.result c.loop-rule_line-test.true c.rule_line-item.is)
 
 pub returns : goal.returns
 returns g c =
     let m = g.A.Algebra.model c.args.alg.now in
     let front = take c.args.count c.args.spare.now in
-    let number = numbered_by c.args.marks.now c.pair-number-from.result in
-    let place = of_meets m number c.args.clause-moves.now c.args.pair in
-    let moves = pair_moves m c.args.rule-moves.now c.args.clause-moves.now c.args.pair in (
-      c.loop-rule-line.invariant.0,
-      append_all place front c.args.rule-moves.now c.loop-rule-line.rule-line-index _ c.loop-rule-line.invariant.1 c.loop-rule-line-test.false
-          ∙ ap (λ ys. front ++ ys) (meets_joined m number c.args.clause-moves.now c.args.pair c.args.rule-moves.now ∙ ap (λ n. map (numbered_by c.args.marks.now n) moves) c.pair-number-from.ensures),
+    let number = numbered_by c.args.marks.now c.pair_number-from.result in
+    let place = of_meets m number c.args.clause_moves.now c.args.pair in
+    let moves = pair_moves m c.args.rule_moves.now c.args.clause_moves.now c.args.pair in (
+      c.loop-rule_line.invariant.0,
+      append_all place front c.args.rule_moves.now c.loop-rule_line.rule_line-index _ c.loop-rule_line.invariant.1 c.loop-rule_line-test.false
+          ∙ ap (λ ys. front ++ ys) (meets_joined m number c.args.clause_moves.now c.args.pair c.args.rule_moves.now ∙ ap (λ n. map (numbered_by c.args.marks.now n) moves) c.pair_number-from.ensures),
     )

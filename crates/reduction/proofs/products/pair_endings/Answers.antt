@@ -9,7 +9,7 @@ use Rattle.reduction.proofs.products.pair_endings.Goals as goal
 pub loop-place-preserved : goal.loop-place-preserved
 loop-place-preserved c k =
     let ends : StatePair → Bool = λ x. chosen c.args.way (holds c.args.rule x.rule) (holds c.args.clause x.clause) in
-    c.insert-pair-places.ensures k
+    c.insert_pair-places.ensures k
     ∙ reordered_more ends c.args.pairs.now start_pair c.loop-place.place k c.loop-place-test.true (holds c.loop-place.places k) (c.loop-place.invariant k) _ refl
 
 pub returns : goal.returns

@@ -6,8 +6,8 @@ use Rattle.reduction.proofs.reducing.keep_states.Goals as goal
 pub loop-state-init : goal.loop-state-init
 loop-state-init c = (sym (kept_none c.args.marks.now), omega arith)
 
-pub keep-state-count-requires : goal.keep-state-count-requires
-keep-state-count-requires c = record {
+pub keep_state-count-requires : goal.keep_state-count-requires
+keep_state-count-requires c = record {
   states = (omega (arith, c.requires.few), kept_are_states c.args.marks.now _ c.loop-state.state (omega (arith, c.requires.few)) c.loop-state.invariant.0);
   bytes = c.requires.bytes;
   room = omega (arith, c.requires.room, c.requires.few, c.loop-state.invariant.1);
@@ -15,8 +15,8 @@ keep-state-count-requires c = record {
 
 pub loop-state-preserved : goal.loop-state-preserved
 loop-state-preserved c = (
-  c.keep-state-count.ensures.front ∙ kept_more c.args.marks.now (take c.loop-state.count c.loop-state.firsts) c.loop-state.state c.loop-state.invariant.0,
-  omega (arith, c.keep-state-count.ensures.few, c.loop-state.invariant.1),
+  c.keep_state-count.ensures.front ∙ kept_more c.args.marks.now (take c.loop-state.count c.loop-state.firsts) c.loop-state.state c.loop-state.invariant.0,
+  omega (arith, c.keep_state-count.ensures.few, c.loop-state.invariant.1),
 )
 
 pub returns : goal.returns

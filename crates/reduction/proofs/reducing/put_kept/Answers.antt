@@ -10,8 +10,8 @@ use Rattle.reduction.proofs.ReducedTables.{drop_later}
 use Rattle.reduction.proofs.WordLoop.{placed_all}
 use Rattle.reduction.proofs.reducing.put_kept.Goals as goal
 
-pub put-line-count-requires : goal.put-line-count-requires
-put-line-count-requires g c = record {
+pub put_line-count-requires : goal.put_line-count-requires
+put_line-count-requires g c = record {
   states = (
     none_at (stray most_states) c.args.moves.now c.loop-line.line-index c.line-item.result c.requires.states.0 c.loop-line-test.true c.line-item.is,
     c.requires.states.1,
@@ -22,7 +22,7 @@ put-line-count-requires g c = record {
 
 pub loop-line-preserved : goal.loop-line-preserved
 loop-line-preserved g c =
-    let next = c.put-line-count.ensures in (
+    let next = c.put_line-count.ensures in (
       next.front
           ∙ append_more (line_kept c.args.marks.now c.args.firsts.now) [] c.args.moves.now c.loop-line.line-index _ c.loop-line.invariant.0 c.line-item.result c.loop-line-test.true c.line-item.is,
       next.tail ∙ drop_later c.loop-line.table c.args.table.now c.loop-line.count _ next.rise.0 c.loop-line.invariant.1,

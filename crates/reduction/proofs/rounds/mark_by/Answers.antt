@@ -6,8 +6,8 @@ use Rattle.automata.proofs.Visits.{none_at}
 use Rattle.reduction.proofs.RoundMarks.{next_more, next_all}
 use Rattle.reduction.proofs.rounds.mark_by.Goals as goal
 
-pub mark-pair-found-requires : goal.mark-pair-found-requires
-mark-pair-found-requires g c = record {
+pub mark_pair-found-requires : goal.mark_pair-found-requires
+mark_pair-found-requires g c = record {
   no_stray = (
     c.requires.no_stray.0,
     none_at (stray c.args.states) c.args.moves.now c.loop-second.second-index c.second-item.result c.requires.no_stray.1 c.loop-second-test.true c.second-item.is,
@@ -20,8 +20,8 @@ mark-pair-found-requires g c = record {
 pub loop-second-preserved : goal.loop-second-preserved
 loop-second-preserved g c = (
   next_more c.args.states c.args.mark c.requires.small.0 (λ R p q v. fit (g.A.Algebra.model c.args.alg.now) R p q c.args.first.now v) c.args.moves.now c.loop-second.second-index
-      c.args.marks.now c.loop-second.marks c.loop-second.invariant.0 c.second-item.result c.mark-pair-found.new.marks c.loop-second-test.true c.second-item.is c.mark-pair-found.ensures.next,
-  λ none. let parts = or_parts c.loop-second.found c.mark-pair-found.result none in c.mark-pair-found.ensures.same parts.1 ∙ c.loop-second.invariant.1 parts.0,
+      c.args.marks.now c.loop-second.marks c.loop-second.invariant.0 c.second-item.result c.mark_pair-found.new.marks c.loop-second-test.true c.second-item.is c.mark_pair-found.ensures.next,
+  λ none. let parts = or_parts c.loop-second.found c.mark_pair-found.result none in c.mark_pair-found.ensures.same parts.1 ∙ c.loop-second.invariant.1 parts.0,
 )
 
 pub returns : goal.returns

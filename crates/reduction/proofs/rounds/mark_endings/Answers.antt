@@ -9,7 +9,7 @@ pub loop-place-preserved : goal.loop-place-preserved
 loop-place-preserved c =
     below_more _ _
     (λ k h. let ne : k ≢ c.loop-place.place = omega arith in rw get_or-set_other (c.loop-place.invariant k h))
-    (let lt : c.loop-place.place < length c.loop-place.marks = omega arith in rw get_or-set_same c.first-mark.ensures)
+    (let lt : c.loop-place.place < length c.loop-place.marks = omega arith in rw get_or-set_same c.first_mark.ensures)
 
 pub returns : goal.returns
 returns c p q small fits =

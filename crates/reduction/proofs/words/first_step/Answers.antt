@@ -9,8 +9,8 @@ use Rattle.reduction.specs.Rounds.{has_mark}
 use Rattle.reduction.specs.Words.{word_step}
 use Rattle.reduction.proofs.words.first_step.Goals as goal
 
-pub step-with-requires : goal.step-with-requires
-step-with-requires g c = record {
+pub step_with-requires : goal.step_with-requires
+step_with-requires g c = record {
   no_stray = (
     none_at (stray most_states) c.args.moves.now c.loop-first.first-index c.first-item.result c.requires.no_stray c.loop-first-test.true c.first-item.is,
     c.requires.no_stray,
@@ -28,7 +28,7 @@ pub loop-first-preserved : goal.loop-first-preserved
 loop-first-preserved g c =
     let step = step_by (g.A.Algebra.model c.args.alg.now) (has_mark c.args.marks.now c.args.mark) c.args.lower c.args.higher in
     asked_more (λ _ u. first_some (λ _ v. step u v) 0 c.args.moves.now) c.args.moves.now c.loop-first.first-index _ c.loop-first.invariant c.first-item.result c.loop-first-test.true
-    c.first-item.is (sym c.in-default.ensures)
+    c.first-item.is (sym c.in_default.ensures)
 
 pub returns : goal.returns
 returns g c =

@@ -9,11 +9,11 @@ use Rattle.reduction.proofs.RoundsTold.{told_round}
 use Rattle.reduction.proofs.WordLoop.{no_stray_above}
 use Rattle.reduction.proofs.words.place_word.Goals as goal
 
-pub write-word-requires : goal.write-word-requires
-write-word-requires g c =
+pub write_word-requires : goal.write_word-requires
+write_word-requires g c =
     let m = g.A.Algebra.model c.args.alg.now in
     let M = machine_of c.args.states (holds c.args.endings) c.args.moves.now in
-    let is = told_round m M most_rounds c.args.first c.args.second c.mark-rounds.new.marks (Some c.in-Some.round) c.mark-rounds.ensures c.requires.below.0 c.requires.below.1 c.in-Some.ensures in
+    let is = told_round m M most_rounds c.args.first c.args.second c.mark_rounds.new.marks (Some c.in-Some.round) c.mark_rounds.ensures c.requires.below.0 c.requires.below.1 c.in-Some.ensures in
     let counts = (round_of_some m M most_rounds c.in-Some.round c.args.first c.args.second is).0 in
     record {
       no_stray = no_stray_above c.args.states most_states c.args.moves.now c.requires.few c.requires.no_stray;
@@ -25,8 +25,8 @@ pub returns-in-Some : goal.returns-in-Some
 returns-in-Some g c =
     let m = g.A.Algebra.model c.args.alg.now in
     let M = machine_of c.args.states (holds c.args.endings) c.args.moves.now in
-    let is = told_round m M most_rounds c.args.first c.args.second c.mark-rounds.new.marks (Some c.in-Some.round) c.mark-rounds.ensures c.requires.below.0 c.requires.below.1 c.in-Some.ensures in
-    let placed = c.write-word.ensures c.args.states (holds c.args.endings) c.requires.no_stray c.mark-rounds.ensures in
+    let is = told_round m M most_rounds c.args.first c.args.second c.mark_rounds.new.marks (Some c.in-Some.round) c.mark_rounds.ensures c.requires.below.0 c.requires.below.1 c.in-Some.ensures in
+    let placed = c.write_word.ensures c.args.states (holds c.args.endings) c.requires.no_stray c.mark_rounds.ensures in
     record {
       answer = ap Ok placed.0 ∙ ap (λ o. word_length (word_or (word_in m M o c.args.first c.args.second))) (sym is);
       buffer = placed.1 ∙ ap (λ o. word_placed (word_or (word_in m M o c.args.first c.args.second)) c.args.word.now) (sym is);

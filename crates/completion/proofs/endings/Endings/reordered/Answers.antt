@@ -6,7 +6,7 @@ use Rattle.completion.proofs.endings.Endings.reordered.Goals as goal
 
 pub loop-place-preserved : goal.loop-place-preserved
 loop-place-preserved c k =
-    c.insert-if-places.ensures k
+    c.insert_if-places.ensures k
     ∙ reordered_more (holds c.args.self) c.args.order.now 0 c.loop-place.place k c.loop-place-test.true (holds c.loop-place.places k) (c.loop-place.invariant k) c.from.result c.from.ensures
 
 pub returns : goal.returns

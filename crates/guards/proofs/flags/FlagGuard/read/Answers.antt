@@ -2,8 +2,8 @@ use Rattle.std.proofs.Common.{sym, refl, ◌∙◌}
 use Rattle.guards.specs.FlagTests.{pattern_test}
 use Rattle.guards.proofs.flags.FlagGuard.read.Goals as goal
 
-pub returns-then-makes-pattern : goal.returns-then-makes-pattern
-returns-then-makes-pattern c = (pattern_test c.args.row ∙ sym c.if-makes-pattern.ensures, refl)
+pub returns-then-makes_pattern : goal.returns-then-makes_pattern
+returns-then-makes_pattern c = (pattern_test c.args.row ∙ sym c.if-makes_pattern.ensures, refl)
 
-pub returns-else-makes-pattern : goal.returns-else-makes-pattern
-returns-else-makes-pattern c = pattern_test c.args.row ∙ sym c.if-makes-pattern.ensures
+pub returns-else-makes_pattern : goal.returns-else-makes_pattern
+returns-else-makes_pattern c = pattern_test c.args.row ∙ sym c.if-makes_pattern.ensures

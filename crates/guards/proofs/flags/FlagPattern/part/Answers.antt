@@ -3,28 +3,28 @@ use Rattle.std.specs.List.{slice_get}
 use Rattle.guards.specs.Flags.{fixed, split, weights, pattern_row}
 use Rattle.guards.proofs.FlagParts.{part_here, part_later, part_stale, part_none}
 use Rattle.guards.proofs.flags.FlagPattern.part.Goals as goal
-use Rattle.guards.proofs.flags.FlagPattern.part.Goals.{then-is-fresh+else-left-eq0, else-is-fresh}
+use Rattle.guards.proofs.flags.FlagPattern.part.Goals.{then-is_fresh+else-left-eq0, else-is_fresh}
 
 pub loop-weight-init : goal.loop-weight-init
 loop-weight-init c = ap (λ g. slice_get (split (pattern_row c.args.self) (pattern_row c.args.other) g weights) c.args.number) c.row-grown.ensures
 
 pub returns-then-left-eq0 : goal.returns-then-left-eq0
 returns-then-left-eq0 c =
-    ap Some (c.fix.ensures ∙ ap (λ t. fixed c.loop-weight.grown (get_or weights c.loop-weight.weight-index 0) (not t)) c.has-bit-on.ensures)
+    ap Some (c.fix.ensures ∙ ap (λ t. fixed c.loop-weight.grown (get_or weights c.loop-weight.weight-index 0) (not t)) c.has_bit-on.ensures)
     ∙ part_here (pattern_row c.args.self) (pattern_row c.args.other) c.loop-weight.grown weights c.loop-weight.weight-index c.loop-weight-test.true _ _ c.loop-weight.invariant
-    (sym c.if-is-fresh.ensures) c.if-left-eq0.true
+    (sym c.if-is_fresh.ensures) c.if-left-eq0.true
 
 pub loop-weight-preserved : goal.loop-weight-preserved
 loop-weight-preserved c =
     let a = pattern_row c.args.self in
     let b = pattern_row c.args.other in
-    elim c.if-is-fresh.branch [
-      | then-is-fresh+else-left-eq0 w ↦
-          rw (w.grown-is, w.left-is, w.fix-grown.ensures, w.has-bit-on.ensures)
-          (part_later a b c.loop-weight.grown weights c.loop-weight.weight-index c.loop-weight-test.true _ _ c.loop-weight.invariant (sym c.is-fresh.ensures ∙ w.if-is-fresh.true) w.if-left-eq0.false)
-      | else-is-fresh w ↦
+    elim c.if-is_fresh.branch [
+      | then-is_fresh+else-left-eq0 w ↦
+          rw (w.grown-is, w.left-is, w.fix-grown.ensures, w.has_bit-on.ensures)
+          (part_later a b c.loop-weight.grown weights c.loop-weight.weight-index c.loop-weight-test.true _ _ c.loop-weight.invariant (sym c.is_fresh.ensures ∙ w.if-is_fresh.true) w.if-left-eq0.false)
+      | else-is_fresh w ↦
           rw (w.grown-is, w.left-is)
-          (part_stale a b c.loop-weight.grown weights c.loop-weight.weight-index c.loop-weight-test.true _ _ c.loop-weight.invariant (sym c.is-fresh.ensures ∙ w.if-is-fresh.false))
+          (part_stale a b c.loop-weight.grown weights c.loop-weight.weight-index c.loop-weight-test.true _ _ c.loop-weight.invariant (sym c.is_fresh.ensures ∙ w.if-is_fresh.false))
     ]
 
 pub returns : goal.returns

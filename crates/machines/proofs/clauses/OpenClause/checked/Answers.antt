@@ -4,17 +4,17 @@ use Rattle.completion.proofs.RewrittenTables.{enough}
 use Rattle.machines.proofs.CheckedCalls.{short_why, faulty_why, no_fault, room_decides, checked_within, checked_as}
 use Rattle.machines.proofs.clauses.OpenClause.checked.Goals as goal
 
-pub returns-then-is-short : goal.returns-then-is-short
-returns-then-is-short g c =
-    (short_why (g.A.Algebra.model c.args.alg.now) c.args.self c.args.table.now c.args.spare.now c.args.marks.now c.args.parts.now c.args.others.now (sym c.is-short.ensures ∙ c.if-is-short.true), refl, refl)
+pub returns-then-is_short : goal.returns-then-is_short
+returns-then-is_short g c =
+    (short_why (g.A.Algebra.model c.args.alg.now) c.args.self c.args.table.now c.args.spare.now c.args.marks.now c.args.parts.now c.args.others.now (sym c.is_short.ensures ∙ c.if-is_short.true), refl, refl)
 
 pub fault-requires : goal.fault-requires
 fault-requires g c =
-    le_trans c.args.self.within.2 (enough c.args.table.now c.args.spare.now c.args.marks.now c.args.parts.now c.args.others.now (sym c.is-short.ensures ∙ c.if-is-short.false)).0
+    le_trans c.args.self.within.2 (enough c.args.table.now c.args.spare.now c.args.marks.now c.args.parts.now c.args.others.now (sym c.is_short.ensures ∙ c.if-is_short.false)).0
 
 pub returns-in-Some : goal.returns-in-Some
 returns-in-Some g c = (
-  faulty_why (g.A.Algebra.model c.args.alg.now) c.args.self c.args.table.now c.args.spare.now c.args.marks.now c.args.parts.now c.args.others.now (sym c.is-short.ensures ∙ c.if-is-short.false) (told c.in-Some.why) c.in-Some.ensures,
+  faulty_why (g.A.Algebra.model c.args.alg.now) c.args.self c.args.table.now c.args.spare.now c.args.marks.now c.args.parts.now c.args.others.now (sym c.is_short.ensures ∙ c.if-is_short.false) (told c.in-Some.why) c.in-Some.ensures,
   refl,
   refl,
 )
@@ -22,33 +22,33 @@ returns-in-Some g c = (
 pub rewrite-requires : goal.rewrite-requires
 rewrite-requires g c = record {
   within = c.args.self.within;
-  no_stray = (no_fault (g.A.Algebra.model c.args.alg.now) c.args.self.counts.states (take c.args.self.counts.moves c.args.table.now) c.in-default.ensures).0;
-  sizes = sym c.is-short.ensures ∙ c.if-is-short.false;
+  no_stray = (no_fault (g.A.Algebra.model c.args.alg.now) c.args.self.counts.states (take c.args.self.counts.moves c.args.table.now) c.in_default.ensures).0;
+  sizes = sym c.is_short.ensures ∙ c.if-is_short.false;
 }
 
-pub invariant-of-result : goal.invariant-of-result
-invariant-of-result g c =
+pub invariant_of-result : goal.invariant_of-result
+invariant_of-result g c =
     let m = g.A.Algebra.model c.args.alg.now in
-    let tests = no_fault m c.args.self.counts.states (take c.args.self.counts.moves c.args.table.now) c.in-default.ensures in
+    let tests = no_fault m c.args.self.counts.states (take c.args.self.counts.moves c.args.table.now) c.in_default.ensures in
     let made = c.in-Some-rewrite.ensures in
     (checked_within m (g.met.A.Algebra.lawful c.args.alg.now) c.args.self c.args.table.now tests.0 tests.1 c.in-Some-rewrite.made.0 c.in-Some-rewrite.made.1 c.rewrite.new.table made.1 made.2 made.3, tt)
 
 pub returns : goal.returns
 returns g c =
     let m = g.A.Algebra.model c.args.alg.now in
-    let sizes = enough c.args.table.now c.args.spare.now c.args.marks.now c.args.parts.now c.args.others.now (sym c.is-short.ensures ∙ c.if-is-short.false) in
-    let tests = no_fault m c.args.self.counts.states (take c.args.self.counts.moves c.args.table.now) c.in-default.ensures in
+    let sizes = enough c.args.table.now c.args.spare.now c.args.marks.now c.args.parts.now c.args.others.now (sym c.is_short.ensures ∙ c.if-is_short.false) in
+    let tests = no_fault m c.args.self.counts.states (take c.args.self.counts.moves c.args.table.now) c.in_default.ensures in
     let made = c.in-Some-rewrite.ensures in (
-      room_decides m c.args.self c.args.table.now c.args.spare.now c.args.marks.now c.args.parts.now c.args.others.now (sym c.is-short.ensures ∙ c.if-is-short.false) tests.0 tests.1 true made.0,
+      room_decides m c.args.self c.args.table.now c.args.spare.now c.args.marks.now c.args.parts.now c.args.others.now (sym c.is_short.ensures ∙ c.if-is_short.false) tests.0 tests.1 true made.0,
       checked_as m (g.met.A.Algebra.lawful c.args.alg.now) c.args.self c.args.table.now tests.0 tests.1 _ c.rewrite.new.table made.1 (omega (arith, made.3, sizes.0, c.rewrite.auto.table)) made.4,
     )
 
-pub returns-in-default-rewrite : goal.returns-in-default-rewrite
-returns-in-default-rewrite g c =
+pub returns-in_default-rewrite : goal.returns-in_default-rewrite
+returns-in_default-rewrite g c =
     let m = g.A.Algebra.model c.args.alg.now in
-    let tests = no_fault m c.args.self.counts.states (take c.args.self.counts.moves c.args.table.now) c.in-default.ensures in
-    let made = c.in-default-rewrite.ensures in (
-      room_decides m c.args.self c.args.table.now c.args.spare.now c.args.marks.now c.args.parts.now c.args.others.now (sym c.is-short.ensures ∙ c.if-is-short.false) tests.0 tests.1 false made.0,
+    let tests = no_fault m c.args.self.counts.states (take c.args.self.counts.moves c.args.table.now) c.in_default.ensures in
+    let made = c.in_default-rewrite.ensures in (
+      room_decides m c.args.self c.args.table.now c.args.spare.now c.args.marks.now c.args.parts.now c.args.others.now (sym c.is_short.ensures ∙ c.if-is_short.false) tests.0 tests.1 false made.0,
       refl,
       made.1,
     )

@@ -12,7 +12,7 @@ returns g c =
     let rule = c.args.self in
     let clause = c.args.clause in
     let before = c.args.table.now in
-    let clause_table = c.args.clause-table.now in
+    let clause_table = c.args.clause_table.now in
     record {
       value = c.joined.ensures;
       runs = joining_runs m laws rule clause c.args.way before clause_table c.joined.new.table c.args.spare.now c.args.marks.now c.args.pairs.now c.joined.result c.joined.ensures;

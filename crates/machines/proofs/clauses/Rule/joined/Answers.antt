@@ -2,16 +2,16 @@ use Rattle.std.proofs.Common.{sym, ◌∙◌, arith}
 use Rattle.machines.proofs.JoinedCalls.{enough, sized, joined_as}
 use Rattle.machines.proofs.clauses.Rule.joined.Goals as goal
 
-pub invariant-of-result : goal.invariant-of-result
-invariant-of-result g c = (c.in-Ok.ensures.2, tt)
+pub invariant_of-result : goal.invariant_of-result
+invariant_of-result g c = (c.in-Ok.ensures.2, tt)
 
 pub returns-in-Ok : goal.returns-in-Ok
 returns-in-Ok g c =
     let m = g.A.Algebra.model c.args.alg.now in
     let laws = g.met.A.Algebra.lawful c.args.alg.now in
     let before = c.args.table.now in
-    let clause_table = c.args.clause-table.now in
-    let long = sym c.is-short.ensures ∙ c.if-is-short.false in
+    let clause_table = c.args.clause_table.now in
+    let long = sym c.is_short.ensures ∙ c.if-is_short.false in
     let made = c.in-Ok.ensures in
     let sizes = enough before clause_table c.args.spare.now c.args.marks.now c.args.pairs.now long in (
       sized m laws c.args.self c.args.clause c.args.way before clause_table c.rejoin.new.table c.args.spare.now c.args.marks.now c.args.pairs.now long ∙ made.0,
