@@ -1,9 +1,9 @@
 -- Joining proper machines: the rule that is made accepts just the days that the way of joining tells.
-use Rattle.std.proofs.Common.{◌≡◌, ℕ, ◌<◌, ◌≤◌, false, length, ◌∙◌}
+use Rattle.std.proofs.Common.{◌<◌, ◌≤◌, length, ◌∙◌}
 use Rattle.std.proofs.lemmas.Bool.Decides.{Decides-at}
 use Rattle.guards.specs.Algebra.{Model, Laws}
 use Rattle.automata.specs.Automaton.{accepted}
-use Rattle.automata.specs.Joining.{Joins, JoinMeaning, JoinLaws}
+use Rattle.automata.specs.Joining.{JoinMeaning, JoinLaws}
 use Rattle.automata.specs.Limits.{most_states, most_rounds}
 use Rattle.automata.specs.Machine.{Machine}
 use Rattle.automata.specs.Product.{pairs, product}

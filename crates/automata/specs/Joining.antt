@@ -6,7 +6,7 @@ use Rattle.automata.specs.Book.{DayAfter}
 use Rattle.automata.specs.Limits.{most_rounds}
 use Rattle.automata.specs.Machine.{Machine, Day, Accepts, Proper}
 use Rattle.automata.specs.Product.{start_pair, pair_targets, pairs, product}
-use Rattle.automata.specs.Reduction.{kept, KeptStates, reduced}
+use Rattle.automata.specs.Reduction.{kept, KeptStates}
 use Rattle.automata.specs.Rounds.{separated_below}
 use Rattle.automata.specs.Running.{stray}
 use Rattle.automata.specs.Search.{Searched}

@@ -1,5 +1,5 @@
 -- The product of two machines: the pairs of states that are reached, their moves, and the endings by a word of joining.
-use Rattle.std.specs.Prelude.{◌≡◌, ℕ, ◌*◌, Bool, false, not, ◌&&◌, ◌||◌, List, map, length, is_some, filter, ◌==◌, slice_index_or}
+use Rattle.std.specs.Prelude.{ℕ, ◌*◌, Bool, false, not, ◌&&◌, ◌||◌, List, map, length, is_some, filter, ◌==◌, slice_index_or}
 use Rattle.std.specs.List.{flat_map}
 use Rattle.guards.specs.Algebra.{Model}
 use Rattle.automata.specs.Machine.{Machine}
