@@ -12,7 +12,7 @@ fn clash_of<A: Algebra>(
     first: &Move<A::Guard>,
     second: &Move<A::Guard>,
 ) -> Option<A::Entry>
-    ensures { result ≡ clash (model alg.now) first.now second.now }
+    ensures { result ≡ clash (A.model alg.now) first.now second.now }
 {
     if first.from == second.from && first.to != second.to {
         alg.sample(alg.meet(first.guard, second.guard))
@@ -29,7 +29,7 @@ fn second_clash<A: Algebra>(
     start: usize,
 ) -> Option<(usize, A::Entry)>
     requires { start ≤ length moves.now }
-    ensures { result ≡ second_clash (model alg.now) first.now start (drop start moves.now) }
+    ensures { result ≡ second_clash (A.model alg.now) first.now start (drop start moves.now) }
 {
     for place in start..moves.len() {
         if let Some(sample) = clash_of(alg, first, &moves[place]) {
@@ -47,7 +47,7 @@ fn clash_after<A: Algebra>(
     place: usize,
 ) -> Option<(usize, usize, A::Entry)>
     requires { place < length moves.now }
-    ensures { result ≡ option_map (λ p. (place, p.0, p.1)) (second_clash (model alg.now) first.now (place + 1) (drop (place + 1) moves.now)) }
+    ensures { result ≡ option_map (λ p. (place, p.0, p.1)) (second_clash (A.model alg.now) first.now (place + 1) (drop (place + 1) moves.now)) }
 {
     match second_clash(alg, first, moves, place + 1) {
         Some((second, sample)) => Some((place, second, sample)),
@@ -60,8 +60,8 @@ pub fn lowest_clash<A: Algebra>(
     alg: &A,
     moves: &[Move<A::Guard>],
 ) -> Option<(usize, usize, A::Entry)>
-    ensures value { result ≡ lowest_clash (model alg.now) moves.now }
-    ensures lowest { Lowest (model alg.now) moves.now result }
+    ensures value { result ≡ lowest_clash (A.model alg.now) moves.now }
+    ensures lowest { Lowest (A.model alg.now) moves.now result }
 {
     for (place, first) in moves.iter().enumerate() {
         if let Some(clash) = clash_after(alg, first, moves, place) {

@@ -49,9 +49,9 @@ fn place_line<A: Algebra>(
     spare: &mut [Move<A::Guard>],
     count: usize,
 ) -> Option<usize>
-    requires marked { is_live (model alg.now) state line.now ≡ true → Marked marks.now line.now.to }
+    requires marked { is_live (A.model alg.now) state line.now ≡ true → Marked marks.now line.now.to }
     requires room { count ≤ length spare.old }
-    ensures { Filled (take count spare.old ++ line_moves (model alg.now) marks.now state from line.now) spare.new result }
+    ensures { Filled (take count spare.old ++ line_moves (A.model alg.now) marks.now state from line.now) spare.new result }
 {
     if is_live(alg, line, state) {
         push(spare, count, renumbered(line, from, marks))
@@ -70,9 +70,9 @@ fn place_lines<A: Algebra>(
     spare: &mut [Move<A::Guard>],
     count: usize,
 ) -> Option<usize>
-    requires marked { TargetsMarked (model alg.now) moves.now state marks.now }
+    requires marked { TargetsMarked (A.model alg.now) moves.now state marks.now }
     requires room { count ≤ length spare.old }
-    ensures { Filled (take count spare.old ++ map (moved_by marks.now from) (filter (is_live (model alg.now) state) moves.now)) spare.new result }
+    ensures { Filled (take count spare.old ++ map (moved_by marks.now from) (filter (is_live (A.model alg.now) state) moves.now)) spare.new result }
 {
     let mut filled = count;
     for line in moves {
@@ -117,9 +117,9 @@ fn place_state<A: Algebra>(
     done: Placed,
 ) -> Option<Placed>
     requires sizes { (length list.old ≡ most_parts) × (length other.old ≡ most_parts) }
-    requires marked { (Marked marks.now state) × (TargetsMarked (model alg.now) moves.now state marks.now) }
+    requires marked { (Marked marks.now state) × (TargetsMarked (A.model alg.now) moves.now state marks.now) }
     requires room { done.moves ≤ length spare.old }
-    ensures { PlacedAs (fits_at (model alg.now) moves.now state) (take done.moves spare.old ++ state_moves (model alg.now) moves.now marks.now sink state) (done.sink || leaves (model alg.now) moves.now state) spare.new result }
+    ensures { PlacedAs (fits_at (A.model alg.now) moves.now state) (take done.moves spare.old ++ state_moves (A.model alg.now) moves.now marks.now sink state) (done.sink || leaves (A.model alg.now) moves.now state) spare.new result }
 {
     let left = put_rest(alg, moves, state, list, other)?;
     let from = number_of(marks, state);
@@ -142,8 +142,8 @@ fn place_states<A: Algebra>(
     spare: &mut [Move<A::Guard>],
 ) -> Option<Placed>
     requires sizes { (length list.old ≡ most_parts) × (length other.old ≡ most_parts) }
-    requires marked { (p : ℕ) → Member p order.now → Marked marks.now p × TargetsMarked (model alg.now) moves.now p marks.now }
-    ensures { StatesPlaced (model alg.now) marks.now moves.now order.now spare.new result }
+    requires marked { (p : ℕ) → Member p order.now → Marked marks.now p × TargetsMarked (A.model alg.now) moves.now p marks.now }
+    ensures { StatesPlaced (A.model alg.now) marks.now moves.now order.now spare.new result }
 {
     let sink = order.len();
     let mut done = Placed {
@@ -165,7 +165,7 @@ fn place_sink<A: Algebra>(
     done: Placed,
 ) -> Option<Counts>
     requires { (states ≤ most_written) × (done.moves ≤ length spare.old) }
-    ensures { Counted (states + (if done.sink then 1 else 0)) (take done.moves spare.old ++ (if done.sink then sunk_from states states (model alg.now).whole ∷ [] else [])) spare.new result }
+    ensures { Counted (states + (if done.sink then 1 else 0)) (take done.moves spare.old ++ (if done.sink then sunk_from states states (A.model alg.now).whole ∷ [] else [])) spare.new result }
 {
     if !done.sink {
         return Some(Counts {
@@ -200,8 +200,8 @@ pub fn complete<A: Algebra>(
     requires room { length spare.old ≡ most_moves }
     requires few { length order.now ≤ most_written }
     requires numbers { Numbers marks.now order.now }
-    requires closed { Closed (model alg.now) moves.now order.now }
-    ensures { Completes (model alg.now) moves.now order.now spare.new result }
+    requires closed { Closed (A.model alg.now) moves.now order.now }
+    ensures { Completes (A.model alg.now) moves.now order.now spare.new result }
 {
     let placed = place_states(alg, moves, order, marks, list, other, spare)?;
     place_sink(alg, order.len(), spare, placed)

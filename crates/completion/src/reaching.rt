@@ -46,7 +46,7 @@ fn queue_target<A: Algebra>(
     requires few { states ≤ most_written }
     requires sizes { (length marks.old ≡ most_states) × (length queue.old ≡ most_states) }
     requires tracks { StateTracks states marks.old queue.old count }
-    ensures { StateTracks states marks.new queue.new result × (take result queue.new ≡ (if is_live (model alg.now) state line.now then add nat_eq (take count queue.old) line.now.to else take count queue.old)) }
+    ensures { StateTracks states marks.new queue.new result × (take result queue.new ≡ (if is_live (A.model alg.now) state line.now then add nat_eq (take count queue.old) line.now.to else take count queue.old)) }
 {
     if is_live(alg, line, state) {
         add_new(marks, line.to, queue, count, line.to as u8)
@@ -69,7 +69,7 @@ fn expand<A: Algebra>(
     requires few { states ≤ most_written }
     requires sizes { (length marks.old ≡ most_states) × (length queue.old ≡ most_states) }
     requires tracks { StateTracks states marks.old queue.old count }
-    ensures { StateTracks states marks.new queue.new result × (take result queue.new ≡ add_all nat_eq (take count queue.old) (targets (model alg.now) moves.now state)) }
+    ensures { StateTracks states marks.new queue.new result × (take result queue.new ≡ add_all nat_eq (take count queue.old) (targets (A.model alg.now) moves.now state)) }
 {
     let mut found = count;
     for line in moves {
@@ -99,7 +99,7 @@ pub fn reach<A: Algebra>(
     requires some { 0 < states }
     requires few { states ≤ most_written }
     requires sizes { (length marks.old ≡ most_states) × (length queue.old ≡ most_states) }
-    ensures { StateTracks states marks.new queue.new result × (take result queue.new ≡ reached nat_eq (targets (model alg.now) moves.now) states 0) }
+    ensures { StateTracks states marks.new queue.new result × (take result queue.new ≡ reached nat_eq (targets (A.model alg.now) moves.now) states 0) }
 {
     clear(marks);
     let mut found = add_new(marks, 0, queue, 0, 0);

@@ -17,7 +17,7 @@ fn put_parts<A: Algebra>(
     count: usize,
 ) -> Option<usize>
     requires { count ≤ length out.old }
-    ensures { Filled (take count out.old ++ (model alg.now).parts a b) out.new result }
+    ensures { Filled (take count out.old ++ (A.model alg.now).parts a b) out.new result }
 {
     let mut filled = count;
     let mut number = 0;
@@ -35,7 +35,7 @@ fn put_without<A: Algebra>(
     b: A::Guard,
     out: &mut [A::Guard],
 ) -> Option<usize>
-    ensures { Filled (without (model alg.now) b list.now) out.new result }
+    ensures { Filled (without (A.model alg.now) b list.now) out.new result }
 {
     let mut filled = 0;
     for a in list {
@@ -53,7 +53,7 @@ fn narrow<A: Algebra>(
     other: &mut [A::Guard],
 ) -> Option<usize>
     requires { (count ≤ length list.old) × (length other.old ≡ length list.old) }
-    ensures { Filled (without (model alg.now) b (take count list.old)) list.new result }
+    ensures { Filled (without (A.model alg.now) b (take count list.old)) list.new result }
 {
     let filled = put_without(alg, &list[0..count], b, other)?;
     copy_front(other, list, filled);
@@ -62,7 +62,7 @@ fn narrow<A: Algebra>(
 
 // Whether the move goes from the state and admits something.
 pub fn is_live<A: Algebra>(alg: &A, line: &Move<A::Guard>, state: usize) -> bool
-    ensures { result ≡ is_live (model alg.now) state line.now }
+    ensures { result ≡ is_live (A.model alg.now) state line.now }
 {
     line.from == state && alg.sample(line.guard).is_some()
 }
@@ -77,7 +77,7 @@ fn narrow_by<A: Algebra>(
     other: &mut [A::Guard],
 ) -> Option<usize>
     requires { (count ≤ length list.old) × (length other.old ≡ length list.old) }
-    ensures { Filled (narrowed (model alg.now) state line.now (take count list.old)) list.new result }
+    ensures { Filled (narrowed (A.model alg.now) state line.now (take count list.old)) list.new result }
 {
     if is_live(alg, line, state) {
         narrow(alg, list, count, line.guard, other)
@@ -96,7 +96,7 @@ pub fn put_rest<A: Algebra>(
     other: &mut [A::Guard],
 ) -> Option<usize>
     requires { (length list.old ≡ most_parts) × (length other.old ≡ most_parts) }
-    ensures { RestFilled (model alg.now) (filter (is_live (model alg.now) state) moves.now) list.new result }
+    ensures { RestFilled (A.model alg.now) (filter (is_live (A.model alg.now) state) moves.now) list.new result }
 {
     let mut filled = push(list, 0, alg.whole())?;
     for line in moves {

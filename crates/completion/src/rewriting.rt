@@ -28,7 +28,7 @@ pub fn fault<A: Algebra>(
     table: &[Move<A::Guard>],
 ) -> Option<Refusal<A::Entry>>
     requires { counts.moves ≤ length table.now }
-    ensures { option_map told result ≡ fault_why (model alg.now) counts.states (take counts.moves table.now) None }
+    ensures { option_map told result ≡ fault_why (A.model alg.now) counts.states (take counts.moves table.now) None }
 {
     let counted = counts.moves;
     let moves = &table[0..counted];
@@ -62,7 +62,7 @@ fn make<A: Algebra>(
     requires tables { (most_moves ≤ length table.now) × (length spare.old ≡ most_moves) }
     requires bytes { length marks.old ≡ 2 * most_states }
     requires lists { (length list.old ≡ most_parts) × (length other.old ≡ most_parts) }
-    ensures { Made (model alg.now) (machine counts endings table.now) spare.new result }
+    ensures { Made (A.model alg.now) (machine counts endings table.now) spare.new result }
 {
     let counted = counts.moves;
     let moves = &table[0..counted];
@@ -88,7 +88,7 @@ pub fn rewrite<A: Algebra>(
     requires within { Within most_written counts endings }
     requires no_stray { any (stray counts.states) (take counts.moves table.old) ≡ false }
     requires sizes { check_short table.old spare.old marks.old parts.old others.old ≡ false }
-    ensures { Rewritten (model alg.now) (machine counts endings table.old) table.old table.new result }
+    ensures { Rewritten (A.model alg.now) (machine counts endings table.old) table.old table.new result }
 {
     let room = &mut spare[0..MOVES];
     let numbers = &mut marks[0..2 * STATES];

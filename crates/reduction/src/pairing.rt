@@ -28,7 +28,7 @@ pub fn is_joined<A: Algebra>(
     rule_line: &Move<A::Guard>,
     clause_line: &Move<A::Guard>,
 ) -> bool
-    ensures { result ≡ joins (model alg.now) pair rule_line.now clause_line.now }
+    ensures { result ≡ joins (A.model alg.now) pair rule_line.now clause_line.now }
 {
     rule_line.from == pair.rule
         && clause_line.from == pair.clause
@@ -69,7 +69,7 @@ fn queue_target<A: Algebra>(
     requires no_stray { (stray most_states rule_line.now ≡ false) × (stray most_states clause_line.now ≡ false) }
     requires sizes { (length marks.old ≡ mark_bytes) × (length pairs.old ≡ most_states) }
     requires tracks { PairTracks marks.old pairs.old count }
-    ensures { PairsQueued (add_all same_pair (take count pairs.old) (of_meet (model alg.now) (λ a. a.to) pair rule_line.now clause_line.now)) marks.new pairs.new result }
+    ensures { PairsQueued (add_all same_pair (take count pairs.old) (of_meet (A.model alg.now) (λ a. a.to) pair rule_line.now clause_line.now)) marks.new pairs.new result }
 {
     if !is_joined(alg, pair, rule_line, clause_line) {
         return Some(count);
@@ -94,7 +94,7 @@ fn queue_targets<A: Algebra>(
     requires no_stray { (stray most_states rule_line.now ≡ false) × (any (stray most_states) clause_moves.now ≡ false) }
     requires sizes { (length marks.old ≡ mark_bytes) × (length pairs.old ≡ most_states) }
     requires tracks { PairTracks marks.old pairs.old count }
-    ensures { PairsQueued (add_all same_pair (take count pairs.old) (of_meets (model alg.now) (λ a. a.to) clause_moves.now pair rule_line.now)) marks.new pairs.new result }
+    ensures { PairsQueued (add_all same_pair (take count pairs.old) (of_meets (A.model alg.now) (λ a. a.to) clause_moves.now pair rule_line.now)) marks.new pairs.new result }
 {
     if rule_line.from != pair.rule {
         return Some(count);
@@ -119,7 +119,7 @@ fn expand_pair<A: Algebra>(
     requires no_stray { (any (stray most_states) rule_moves.now ≡ false) × (any (stray most_states) clause_moves.now ≡ false) }
     requires sizes { (length marks.old ≡ mark_bytes) × (length pairs.old ≡ most_states) }
     requires tracks { PairTracks marks.old pairs.old count }
-    ensures { PairsQueued (add_all same_pair (take count pairs.old) (pair_targets (model alg.now) rule_moves.now clause_moves.now pair)) marks.new pairs.new result }
+    ensures { PairsQueued (add_all same_pair (take count pairs.old) (pair_targets (A.model alg.now) rule_moves.now clause_moves.now pair)) marks.new pairs.new result }
 {
     let mut found = count;
     for rule_line in rule_moves {
@@ -139,7 +139,7 @@ pub fn reach_pairs<A: Algebra>(
 ) -> Option<usize>
     requires no_stray { (any (stray most_states) rule_moves.now ≡ false) × (any (stray most_states) clause_moves.now ≡ false) }
     requires sizes { (length marks.old ≡ mark_bytes) × (length pairs.old ≡ most_states) }
-    ensures { PairsQueued (reached same_pair (pair_targets (model alg.now) rule_moves.now clause_moves.now) mark_bytes start_pair) marks.new pairs.new result }
+    ensures { PairsQueued (reached same_pair (pair_targets (A.model alg.now) rule_moves.now clause_moves.now) mark_bytes start_pair) marks.new pairs.new result }
 {
     clear(marks);
     let start = StatePair { rule: 0, clause: 0 };

@@ -31,8 +31,8 @@ fn met_move<A: Algebra>(
     from: usize,
     marks: &[u8],
 ) -> Move<A::Guard>
-    requires { PairMarked marks.now (met (model alg.now) rule_line.now clause_line.now).to }
-    ensures { result ≡ numbered_by marks.now from (met (model alg.now) rule_line.now clause_line.now) }
+    requires { PairMarked marks.now (met (A.model alg.now) rule_line.now clause_line.now).to }
+    ensures { result ≡ numbered_by marks.now from (met (A.model alg.now) rule_line.now clause_line.now) }
 {
     let to = StatePair {
         rule: rule_line.to,
@@ -56,9 +56,9 @@ fn place_met<A: Algebra>(
     spare: &mut [Move<A::Guard>],
     count: usize,
 ) -> Option<usize>
-    requires marked { joins (model alg.now) pair rule_line.now clause_line.now ≡ true → PairMarked marks.now (met (model alg.now) rule_line.now clause_line.now).to }
+    requires marked { joins (A.model alg.now) pair rule_line.now clause_line.now ≡ true → PairMarked marks.now (met (A.model alg.now) rule_line.now clause_line.now).to }
     requires room { count ≤ length spare.old }
-    ensures { Filled (take count spare.old ++ of_meet (model alg.now) (numbered_by marks.now from) pair rule_line.now clause_line.now) spare.new result }
+    ensures { Filled (take count spare.old ++ of_meet (A.model alg.now) (numbered_by marks.now from) pair rule_line.now clause_line.now) spare.new result }
 {
     if is_joined(alg, pair, rule_line, clause_line) {
         push(
@@ -83,9 +83,9 @@ fn place_meets<A: Algebra>(
     spare: &mut [Move<A::Guard>],
     count: usize,
 ) -> Option<usize>
-    requires marked { MeetsMarked (model alg.now) (rule_line.now ∷ []) clause_moves.now marks.now pair }
+    requires marked { MeetsMarked (A.model alg.now) (rule_line.now ∷ []) clause_moves.now marks.now pair }
     requires room { count ≤ length spare.old }
-    ensures { Filled (take count spare.old ++ of_meets (model alg.now) (numbered_by marks.now from) clause_moves.now pair rule_line.now) spare.new result }
+    ensures { Filled (take count spare.old ++ of_meets (A.model alg.now) (numbered_by marks.now from) clause_moves.now pair rule_line.now) spare.new result }
 {
     if rule_line.from != pair.rule {
         return Some(count);
@@ -116,9 +116,9 @@ fn place_pair<A: Algebra>(
     spare: &mut [Move<A::Guard>],
     count: usize,
 ) -> Option<usize>
-    requires marked { (PairMarked marks.now pair) × (MeetsMarked (model alg.now) rule_moves.now clause_moves.now marks.now pair) }
+    requires marked { (PairMarked marks.now pair) × (MeetsMarked (A.model alg.now) rule_moves.now clause_moves.now marks.now pair) }
     requires room { count ≤ length spare.old }
-    ensures { Filled (take count spare.old ++ pair_placed (model alg.now) rule_moves.now clause_moves.now marks.now pair) spare.new result }
+    ensures { Filled (take count spare.old ++ pair_placed (A.model alg.now) rule_moves.now clause_moves.now marks.now pair) spare.new result }
 {
     let from = pair_number(marks, pair);
     let mut filled = count;
@@ -147,8 +147,8 @@ pub fn place_pairs<A: Algebra>(
     marks: &[u8],
     spare: &mut [Move<A::Guard>],
 ) -> Option<usize>
-    requires marked { (x : PairOfStates) → Member x pairs.now → PairMarked marks.now x × MeetsMarked (model alg.now) rule_moves.now clause_moves.now marks.now x }
-    ensures { Filled (flat_map (pair_placed (model alg.now) rule_moves.now clause_moves.now marks.now) pairs.now) spare.new result }
+    requires marked { (x : PairOfStates) → Member x pairs.now → PairMarked marks.now x × MeetsMarked (A.model alg.now) rule_moves.now clause_moves.now marks.now x }
+    ensures { Filled (flat_map (pair_placed (A.model alg.now) rule_moves.now clause_moves.now marks.now) pairs.now) spare.new result }
 {
     let mut filled = 0;
     for pair in pairs {

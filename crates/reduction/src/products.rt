@@ -81,7 +81,7 @@ pub fn build_product<A: Algebra>(
     requires tables { (most_moves ≤ length rule_table.now) × (most_moves ≤ length clause_table.now) }
     requires room { length spare.old ≡ most_moves }
     requires sizes { (length marks.old ≡ mark_bytes) × (length pairs.old ≡ most_states) }
-    ensures { ProductBuilt (model alg.now) (machine rule_counts rule_endings rule_table.now) (machine clause_counts clause_endings clause_table.now) way spare.new result }
+    ensures { ProductBuilt (A.model alg.now) (machine rule_counts rule_endings rule_table.now) (machine clause_counts clause_endings clause_table.now) way spare.new result }
 {
     let rule_moves = front(rule_table, rule_counts.moves);
     let clause_moves = front(clause_table, clause_counts.moves);

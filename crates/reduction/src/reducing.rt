@@ -156,7 +156,7 @@ pub fn reduce<A: Algebra>(
     requires no_stray { any (stray counts.states) (take counts.moves spare.now) ≡ false }
     requires tables { (most_moves ≤ length spare.now) × (most_moves ≤ length table.old) }
     requires bytes { mark_bytes ≤ length marks.old }
-    ensures { ReducedAs (model alg.now) (machine counts endings spare.now) table.old result table.new }
+    ensures { ReducedAs (A.model alg.now) (machine counts endings spare.now) table.old result table.new }
 {
     let moves = front(spare, counts.moves);
     mark_rounds(alg, endings, moves, counts.states, marks);

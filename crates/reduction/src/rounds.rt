@@ -54,7 +54,7 @@ fn separates<A: Algebra>(
     requires no_stray { (stray states first.now ≡ false) × (stray states second.now ≡ false) }
     requires few { states ≤ most_states }
     requires bytes { mark_bytes ≤ length marks.now }
-    ensures { result ≡ separates (model alg.now) marks.now mark first.now second.now }
+    ensures { result ≡ separates (A.model alg.now) marks.now mark first.now second.now }
 {
     first.from != second.from
         && marks[pair_place(first.from, second.from)] == 0
@@ -75,7 +75,7 @@ fn mark_pair<A: Algebra>(
     requires few { states ≤ most_states }
     requires bytes { mark_bytes ≤ length marks.old }
     requires small { mark < most_rounds }
-    ensures next { NextBy states mark (λ R p q. fit (model alg.now) R p q first.now second.now) marks.old marks.new }
+    ensures next { NextBy states mark (λ R p q. fit (A.model alg.now) R p q first.now second.now) marks.old marks.new }
     ensures same { result ≡ false → marks.new ≡ marks.old }
 {
     let found = separates(alg, first, second, states, marks, mark);
@@ -98,7 +98,7 @@ fn mark_by<A: Algebra>(
     requires few { states ≤ most_states }
     requires bytes { mark_bytes ≤ length marks.old }
     requires small { (0 < mark) × (mark < most_rounds) }
-    ensures next { NextBy states mark (λ R p q. any (fit (model alg.now) R p q first.now) moves.now) marks.old marks.new }
+    ensures next { NextBy states mark (λ R p q. any (fit (A.model alg.now) R p q first.now) moves.now) marks.old marks.new }
     ensures same { result ≡ false → marks.new ≡ marks.old }
 {
     let mut found = false;
@@ -120,7 +120,7 @@ fn next_round<A: Algebra>(
     requires few { states ≤ most_states }
     requires bytes { mark_bytes ≤ length marks.old }
     requires small { (0 < mark) × (mark < most_rounds) }
-    ensures next { NextBy states mark (some_fit (model alg.now) moves.now) marks.old marks.new }
+    ensures next { NextBy states mark (some_fit (A.model alg.now) moves.now) marks.old marks.new }
     ensures same { result ≡ false → marks.new ≡ marks.old }
 {
     let mut found = false;
@@ -141,7 +141,7 @@ pub fn mark_rounds<A: Algebra>(
     requires no_stray { any (stray states) moves.now ≡ false }
     requires few { states ≤ most_states }
     requires bytes { mark_bytes ≤ length marks.old }
-    ensures { RoundMarks (model alg.now) (machine_of states (holds endings) moves.now) most_rounds marks.new }
+    ensures { RoundMarks (A.model alg.now) (machine_of states (holds endings) moves.now) most_rounds marks.new }
 {
     mark_endings(endings, marks);
     for round in 1..WORD_ENTRIES + 1 {

@@ -29,7 +29,7 @@ fn step_by<A: Algebra>(
 ) -> Option<(A::Entry, usize, usize)>
     requires no_stray { (stray most_states first.now ≡ false) × (stray most_states second.now ≡ false) }
     requires bytes { mark_bytes ≤ length marks.now }
-    ensures { option_map word_step result ≡ step_by (model alg.now) (has_mark marks.now mark) lower higher first.now second.now }
+    ensures { option_map word_step result ≡ step_by (A.model alg.now) (has_mark marks.now mark) lower higher first.now second.now }
 {
     if first.from == lower
         && second.from == higher
@@ -56,7 +56,7 @@ fn step_with<A: Algebra>(
 ) -> Option<(A::Entry, usize, usize)>
     requires no_stray { (stray most_states first.now ≡ false) × (any (stray most_states) moves.now ≡ false) }
     requires bytes { mark_bytes ≤ length marks.now }
-    ensures { option_map word_step result ≡ first_some (λ _ v. step_by (model alg.now) (has_mark marks.now mark) lower higher first.now v) 0 moves.now }
+    ensures { option_map word_step result ≡ first_some (λ _ v. step_by (A.model alg.now) (has_mark marks.now mark) lower higher first.now v) 0 moves.now }
 {
     for second in moves {
         if let Some(step) = step_by(alg, first, second, lower, higher, marks, mark) {
@@ -77,7 +77,7 @@ fn first_step<A: Algebra>(
 ) -> Option<(A::Entry, usize, usize)>
     requires no_stray { any (stray most_states) moves.now ≡ false }
     requires bytes { mark_bytes ≤ length marks.now }
-    ensures { option_map word_step result ≡ first_step (model alg.now) moves.now (has_mark marks.now mark) lower higher }
+    ensures { option_map word_step result ≡ first_step (A.model alg.now) moves.now (has_mark marks.now mark) lower higher }
 {
     for first in moves {
         if let Some(step) = step_with(alg, first, moves, lower, higher, marks, mark) {
@@ -107,7 +107,7 @@ fn write_word<A: Algebra>(
     requires no_stray { any (stray most_states) moves.now ≡ false }
     requires bytes { mark_bytes ≤ length marks.now }
     requires room { (round < most_rounds) × (round ≤ length word.old) }
-    ensures { PlacesWord (model alg.now) moves.now marks.now round first second word.old word.new result }
+    ensures { PlacesWord (A.model alg.now) moves.now marks.now round first second word.old word.new result }
 {
     let mut p = first;
     let mut q = second;
@@ -150,8 +150,8 @@ pub fn place_word<A: Algebra>(
     requires few { states ≤ most_states }
     requires below { (first < states) × (second < states) }
     requires sizes { (most_word ≤ length word.old) × (mark_bytes ≤ length marks.old) }
-    ensures answer { said result ≡ word_length (word_or (word_of (model alg.now) (machine_of states (holds endings) moves.now) first second)) }
-    ensures buffer { word.new ≡ word_placed (word_or (word_of (model alg.now) (machine_of states (holds endings) moves.now) first second)) word.old }
+    ensures answer { said result ≡ word_length (word_or (word_of (A.model alg.now) (machine_of states (holds endings) moves.now) first second)) }
+    ensures buffer { word.new ≡ word_placed (word_or (word_of (A.model alg.now) (machine_of states (holds endings) moves.now) first second)) word.old }
 {
     mark_rounds(alg, endings, moves, states, marks);
     match round_of(marks, first, second) {

@@ -10,7 +10,7 @@ use guards::algebra::Algebra;
 impl CheckedClause {
     // Ends the clause.
     pub fn discard<A: Algebra>(self, alg: &A)
-        ensures { CheckedDiscardingRuns (model alg.now) self }
+        ensures { CheckedDiscardingRuns (A.model alg.now) self }
     {
         let CheckedClause {
             counts: _,

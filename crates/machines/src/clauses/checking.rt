@@ -40,7 +40,7 @@ impl OpenClause {
         parts: &mut [A::Guard],
         others: &mut [A::Guard],
     ) -> Result<CheckedClause, Refused<OpenClause, A::Entry>>
-        ensures { Outcome (check_why (model alg.now) self table.old spare.old marks.old parts.old others.old) (λ d. CheckedAs (model alg.now) self table.old d table.new) self (table.new ≡ table.old) result }
+        ensures { Outcome (check_why (A.model alg.now) self table.old spare.old marks.old parts.old others.old) (λ d. CheckedAs (A.model alg.now) self table.old d table.new) self (table.new ≡ table.old) result }
     {
         if is_short(table, spare, marks, parts, others) {
             return Err(Refused {
@@ -84,9 +84,9 @@ impl OpenClause {
         parts: &mut [A::Guard],
         others: &mut [A::Guard],
     ) -> Result<CheckedClause, Refused<OpenClause, A::Entry>>
-        ensures value { Outcome (check_why (model alg.now) self table.old spare.old marks.old parts.old others.old) (λ d. CheckedAs (model alg.now) self table.old d table.new) self (table.new ≡ table.old) result }
-        ensures runs { CheckingRuns (model alg.now) self table.old table.new result }
-        ensures laws { CheckLaws (model alg.now) (written (model alg.now) self table.old) }
+        ensures value { Outcome (check_why (A.model alg.now) self table.old spare.old marks.old parts.old others.old) (λ d. CheckedAs (A.model alg.now) self table.old d table.new) self (table.new ≡ table.old) result }
+        ensures runs { CheckingRuns (A.model alg.now) self table.old table.new result }
+        ensures laws { CheckLaws (A.model alg.now) (written (A.model alg.now) self table.old) }
     {
         self.checked(alg, table, spare, marks, parts, others)
     }

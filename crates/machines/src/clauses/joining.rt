@@ -62,7 +62,7 @@ fn rejoin<A: Algebra>(
 ) -> Result<(Counts, Endings), Refusal<A::Entry>>
     requires sizes { join_short table.old clause_table.now spare.old marks.old pairs.old ≡ false }
     requires no_stray { (any (stray rule.now.counts.states) (take rule.now.counts.moves table.old) ≡ false) × (any (stray clause.now.counts.states) (take clause.now.counts.moves clause_table.now) ≡ false) }
-    ensures { Rejoined (model alg.now) (rule_machine rule.now table.old) (clause_machine clause.now clause_table.now) way table.old table.new result }
+    ensures { Rejoined (A.model alg.now) (rule_machine rule.now table.old) (clause_machine clause.now clause_table.now) way table.old table.new result }
 {
     let room = &mut spare[0..MOVES];
     let bytes = &mut marks[0..MARKS];
@@ -112,7 +112,7 @@ impl Rule {
         marks: &mut [u8],
         pairs: &mut [StatePair],
     ) -> Result<Rule, Refused<Unjoined, A::Entry>>
-        ensures { Outcome (joining_why (model alg.now) self clause way table.old clause_table.now spare.old marks.old pairs.old) (JoinedAs (model alg.now) self clause way table.old clause_table.now table.new) (record { rule = self; clause = clause }) (table.new ≡ table.old) result }
+        ensures { Outcome (joining_why (A.model alg.now) self clause way table.old clause_table.now spare.old marks.old pairs.old) (JoinedAs (A.model alg.now) self clause way table.old clause_table.now table.new) (record { rule = self; clause = clause }) (table.new ≡ table.old) result }
     {
         if is_short(table, clause_table, spare, marks, pairs) {
             return refused(self, clause, Refusal::TooShort);
@@ -155,11 +155,11 @@ impl Rule {
         marks: &mut [u8],
         pairs: &mut [StatePair],
     ) -> Result<Rule, Refused<Unjoined, A::Entry>>
-        ensures value { Outcome (joining_why (model alg.now) self clause way table.old clause_table.now spare.old marks.old pairs.old) (JoinedAs (model alg.now) self clause way table.old clause_table.now table.new) (record { rule = self; clause = clause }) (table.new ≡ table.old) result }
-        ensures runs { JoiningRuns (model alg.now) self clause way table.old clause_table.now table.new result }
-        ensures kept { JoinKept (model alg.now) self clause way table.old clause_table.now table.new result }
-        ensures matches { RulesMatch (model alg.now) }
-        ensures laws { JoinLaws (model alg.now) (rule_machine self table.old) (clause_machine clause clause_table.now) way }
+        ensures value { Outcome (joining_why (A.model alg.now) self clause way table.old clause_table.now spare.old marks.old pairs.old) (JoinedAs (A.model alg.now) self clause way table.old clause_table.now table.new) (record { rule = self; clause = clause }) (table.new ≡ table.old) result }
+        ensures runs { JoiningRuns (A.model alg.now) self clause way table.old clause_table.now table.new result }
+        ensures kept { JoinKept (A.model alg.now) self clause way table.old clause_table.now table.new result }
+        ensures matches { RulesMatch (A.model alg.now) }
+        ensures laws { JoinLaws (A.model alg.now) (rule_machine self table.old) (clause_machine clause clause_table.now) way }
     {
         self.joined(alg, clause, way, table, clause_table, spare, marks, pairs)
     }

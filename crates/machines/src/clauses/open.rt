@@ -15,7 +15,7 @@ impl OpenClause {
     // A clause with state 0 alone: no moves and no endings.
     pub fn open<A: Algebra>(alg: &A) -> OpenClause
         ensures value { Opened result }
-        ensures runs { OpeningRuns (model alg.now) result }
+        ensures runs { OpeningRuns (A.model alg.now) result }
     {
         OpenClause {
             counts: Counts {
@@ -54,7 +54,7 @@ impl OpenClause {
         alg: &A,
     ) -> Result<(OpenClause, usize), Refused<OpenClause, A::Entry>>
         ensures value { Outcome (adding_refused self) (Added self) self (Unit {0}) result }
-        ensures runs { AddingRuns (model alg.now) self result }
+        ensures runs { AddingRuns (A.model alg.now) self result }
     {
         self.added(alg)
     }
@@ -86,7 +86,7 @@ impl OpenClause {
         state: usize,
     ) -> Result<OpenClause, Refused<OpenClause, A::Entry>>
         ensures value { Outcome (marking_refused self state) (Marked self state) self (Unit {0}) result }
-        ensures runs { MarkingRuns (model alg.now) self state result }
+        ensures runs { MarkingRuns (A.model alg.now) self state result }
     {
         self.marked(alg, state)
     }
@@ -141,14 +141,14 @@ impl OpenClause {
         line: Move<A::Guard>,
     ) -> Result<OpenClause, Refused<OpenClause, A::Entry>>
         ensures value { Outcome (writing_refused self table.old line) (λ c. Written self table.old line c table.new) self (table.new ≡ table.old) result }
-        ensures runs { WritingRuns (model alg.now) self line table.old table.new result }
+        ensures runs { WritingRuns (A.model alg.now) self line table.old table.new result }
     {
         self.written(alg, table, line)
     }
 
     // Ends the clause.
     pub fn discard<A: Algebra>(self, alg: &A)
-        ensures { OpenDiscardingRuns (model alg.now) self }
+        ensures { OpenDiscardingRuns (A.model alg.now) self }
     {
         let OpenClause {
             counts: _,

@@ -17,7 +17,7 @@ use guards::algebra::Algebra;
 impl Rule {
     // What a new sheet answers; `new_sheet` adds the promises.
     fn whole<A: Algebra>(alg: &A, table: &mut [Move<A::Guard>]) -> Result<Rule, Refusal<A::Entry>>
-        ensures { SheetOutcome (model alg.now).whole table.old table.new result }
+        ensures { SheetOutcome (A.model alg.now).whole table.old table.new result }
     {
         if table.len() < MOVES {
             return Err(Refusal::TooShort);
@@ -41,9 +41,9 @@ impl Rule {
         alg: &A,
         table: &mut [Move<A::Guard>],
     ) -> Result<Rule, Refusal<A::Entry>>
-        ensures value { SheetOutcome (model alg.now).whole table.old table.new result }
-        ensures kept { NewSheetKept (model alg.now) table.new result }
-        ensures promises { RulesKept (model alg.now) × RulesMatch (model alg.now) }
+        ensures value { SheetOutcome (A.model alg.now).whole table.old table.new result }
+        ensures kept { NewSheetKept (A.model alg.now) table.new result }
+        ensures promises { RulesKept (A.model alg.now) × RulesMatch (A.model alg.now) }
     {
         Rule::whole(alg, table)
     }
@@ -62,8 +62,8 @@ impl Rule {
     // The rule that accepts exactly the other days.
     pub fn turn<A: Algebra>(self, alg: &A) -> Rule
         ensures value { Turned self result }
-        ensures meaning { TurnMeaning (model alg.now) self result }
-        ensures runs { TurningRuns (model alg.now) self result }
+        ensures meaning { TurnMeaning (A.model alg.now) self result }
+        ensures runs { TurningRuns (A.model alg.now) self result }
     {
         self.complement()
     }
@@ -79,7 +79,7 @@ impl Rule {
     // How many states the rule has. No machine that accepts the same days has fewer states of any kind.
     pub fn least_states<A: Algebra, Q>(&self, alg: &A) -> usize
         ensures value { result ≡ self.now.counts.states }
-        ensures least { LeastOfKind (model alg.now) Q }
+        ensures least { LeastOfKind (A.model alg.now) Q }
     {
         self.counts.states
     }

@@ -13,7 +13,7 @@ use guards::algebra::Algebra;
 
 // Whether the move goes from the state and admits the entry.
 fn takes<A: Algebra>(alg: &A, line: &Move<A::Guard>, state: usize, e: A::Entry) -> bool
-    ensures { result ≡ taken_by (model alg.now) state e line.now }
+    ensures { result ≡ taken_by (A.model alg.now) state e line.now }
 {
     line.from == state && alg.admits(line.guard, e)
 }
@@ -25,7 +25,7 @@ fn next_state<A: Algebra>(
     state: usize,
     e: A::Entry,
 ) -> Option<usize>
-    ensures { result ≡ next (model alg.now) moves.now state e }
+    ensures { result ≡ next (A.model alg.now) moves.now state e }
 {
     for line in moves {
         if takes(alg, line, state, e) {
@@ -37,7 +37,7 @@ fn next_state<A: Algebra>(
 
 // The state that the day leads to from 0, or the place of the first entry without a next state.
 fn follow<A: Algebra>(alg: &A, moves: &[Move<A::Guard>], day: &[A::Entry]) -> Result<usize, usize>
-    ensures { result ≡ walk (next (model alg.now) moves.now) 0 0 day.now }
+    ensures { result ≡ walk (next (A.model alg.now) moves.now) 0 0 day.now }
 {
     let mut state = 0;
     for (place, e) in day.iter().enumerate() {
@@ -57,7 +57,7 @@ impl Rule {
         table: &[Move<A::Guard>],
         day: &[A::Entry],
     ) -> Result<(usize, bool), Refusal<A::Entry>>
-        ensures { said result ≡ ran (model alg.now) self.now.counts self.now.endings table.now day.now }
+        ensures { said result ≡ ran (A.model alg.now) self.now.counts self.now.endings table.now day.now }
     {
         if table.len() < MOVES {
             return Err(Refusal::TooShort);
@@ -79,8 +79,8 @@ impl Rule {
         table: &[Move<A::Guard>],
         day: &[A::Entry],
     ) -> Result<(usize, bool), Refusal<A::Entry>>
-        ensures value { said result ≡ ran (model alg.now) self.now.counts self.now.endings table.now day.now }
-        ensures meaning { RunMeaning (model alg.now) self.now.counts self.now.endings table.now day.now result }
+        ensures value { said result ≡ ran (A.model alg.now) self.now.counts self.now.endings table.now day.now }
+        ensures meaning { RunMeaning (A.model alg.now) self.now.counts self.now.endings table.now day.now result }
     {
         self.answer(alg, table, day)
     }

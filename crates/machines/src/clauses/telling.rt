@@ -46,8 +46,8 @@ impl Rule {
         word: &mut [A::Entry],
         marks: &mut [u8],
     ) -> Result<usize, Refusal<A::Entry>>
-        ensures answer { said result ≡ word_length (told_apart (model alg.now) (machine self.now.counts self.now.endings table.now) table.now first second word.old marks.old) }
-        ensures buffer { word.new ≡ word_placed (told_apart (model alg.now) (machine self.now.counts self.now.endings table.now) table.now first second word.old marks.old) word.old }
+        ensures answer { said result ≡ word_length (told_apart (A.model alg.now) (machine self.now.counts self.now.endings table.now) table.now first second word.old marks.old) }
+        ensures buffer { word.new ≡ word_placed (told_apart (A.model alg.now) (machine self.now.counts self.now.endings table.now) table.now first second word.old marks.old) word.old }
     {
         if is_short(table, word, marks) {
             return Err(Refusal::TooShort);
@@ -73,9 +73,9 @@ impl Rule {
         word: &mut [A::Entry],
         marks: &mut [u8],
     ) -> Result<usize, Refusal<A::Entry>>
-        ensures answer { said result ≡ word_length (told_apart (model alg.now) (machine self.now.counts self.now.endings table.now) table.now first second word.old marks.old) }
-        ensures buffer { word.new ≡ word_placed (told_apart (model alg.now) (machine self.now.counts self.now.endings table.now) table.now first second word.old marks.old) word.old }
-        ensures told { ToldShortest (model alg.now) self.now table.now first second word.old marks.old word.new result }
+        ensures answer { said result ≡ word_length (told_apart (A.model alg.now) (machine self.now.counts self.now.endings table.now) table.now first second word.old marks.old) }
+        ensures buffer { word.new ≡ word_placed (told_apart (A.model alg.now) (machine self.now.counts self.now.endings table.now) table.now first second word.old marks.old) word.old }
+        ensures told { ToldShortest (A.model alg.now) self.now table.now first second word.old marks.old word.new result }
     {
         self.write_word(alg, table, first, second, word, marks)
     }

@@ -1,4 +1,4 @@
-use Rattle.std.proofs.Common.{◌≡◌, [], ◌∷◌, length, take, set, arith, length-append}
+use Rattle.std.proofs.Common.{[], ◌∷◌, take, arith, length-append}
 use Rattle.std.proofs.lemmas.List.{length-set, length-take-le, take_more_set}
 use Rattle.completion.proofs.buffers.push.Goals as goal
 

@@ -1,4 +1,4 @@
-use Rattle.std.proofs.Common.{◌+◌, eqb, map, take, drop, filter, ap, ◌∙◌, arith}
+use Rattle.std.proofs.Common.{◌+◌, eqb, map, drop, filter, ap, ◌∙◌, arith}
 use Rattle.automata.specs.Checking.{is_live}
 use Rattle.automata.specs.Running.{stray}
 use Rattle.automata.specs.Search.{add_all}

@@ -1,4 +1,4 @@
-use Rattle.std.proofs.Common.{ℕ, cond, eqb, take, sym, ap, ◌∙◌, arith}
+use Rattle.std.proofs.Common.{cond, eqb, take, ap, ◌∙◌, arith}
 use Rattle.automata.specs.Search.{add}
 use Rattle.automata.proofs.Places.{number_tells}
 use Rattle.automata.proofs.Strays.{between}

@@ -1,7 +1,6 @@
-use Rattle.std.proofs.Common.{◌≡◌, ℕ, ◌-◌, ◌<◌, ◌≤◌, eqb, [], ◌∷◌, length, take, sym, refl, ap, ◌∙◌, arith}
+use Rattle.std.proofs.Common.{◌≡◌, ◌-◌, eqb, [], ◌∷◌, ap, ◌∙◌, arith}
 use Rattle.automata.specs.Checking.{targets}
 use Rattle.automata.specs.Search.{visit}
-use Rattle.automata.specs.Tracking.{StateTracks}
 use Rattle.automata.proofs.Places.{number_tells}
 use Rattle.automata.proofs.Tracked.{queued_tracks, tracked_few, tracks_none}
 use Rattle.automata.proofs.Visits.{visit_more, visit_grows, visit_all}

@@ -1,4 +1,4 @@
-use Rattle.std.proofs.Common.{◌≡◌, ◌+◌, ◌<◌, ◌≤◌, [], ◌∷◌, ◌++◌, length, take, is_some, sym, ap, ◌∙◌, arith, length-append, rules}
+use Rattle.std.proofs.Common.{◌<◌, [], ◌∷◌, ◌++◌, length, take, is_some, sym, ap, ◌∙◌, arith, length-append, rules}
 use Rattle.std.proofs.lemmas.List.{append_assoc, length-take-le, take_all}
 use Rattle.guards.proofs.Places.{nth_within, nth_beyond}
 use Rattle.automata.proofs.Appending.{no_room, pushed_length, nth_more}

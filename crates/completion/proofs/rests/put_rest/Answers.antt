@@ -1,4 +1,4 @@
-use Rattle.std.proofs.Common.{◌≡◌, ◌+◌, ◌≤◌, [], ◌∷◌, length, take, drop, filter, sym, ap, ◌∙◌, subst, arith}
+use Rattle.std.proofs.Common.{◌+◌, ◌≤◌, [], ◌∷◌, length, take, drop, filter, sym, ap, ◌∙◌, subst, arith}
 use Rattle.std.proofs.lemmas.List.{length-take-le}
 use Rattle.automata.specs.Checking.{RestFilled, is_live, rest_of, rest_fits}
 use Rattle.automata.proofs.RestLoop.{rest_more, rest_all, fits_more, fits_short, fits_all}

@@ -1,4 +1,4 @@
-use Rattle.std.proofs.Common.{[], ◌++◌, length, take, sym, ◌∙◌, arith}
+use Rattle.std.proofs.Common.{[], ◌∙◌}
 use Rattle.automata.proofs.Appending.{no_room, append_more, append_short, append_all}
 use Rattle.completion.proofs.rests.put_without.Goals as goal
 
