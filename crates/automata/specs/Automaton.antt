@@ -1,6 +1,6 @@
 -- Complete deterministic machines by a next function: the days that they accept, and when no smaller one accepts the same.
 use Rattle.std.specs.Prelude.{◌≡◌, ℕ, ◌<◌, Bool, true, List, [], ◌∷◌, ◌≢◌}
-use Rattle.std.specs.List.{AllByRecursion as All}
+use Rattle.std.specs.List.{AllByRecursion}
 
 -- the state that the entries lead to, for states of any kind
 abbrev pub run : {E Q : Type 0} → (Q → E → Q) → Q → List E → Q
@@ -20,7 +20,7 @@ accepted M q w = M.endings (run M.next q w)
 module _ {E : Type 0} (domain : E → Bool) where
   -- a list of domain entries
   abbrev pub InDomain : List E → Type 0
-  InDomain w = All (λ e. domain e ≡ true) w
+  InDomain w = AllByRecursion (λ e. domain e ≡ true) w
 
   -- the start is a state, and each state has on each domain entry a next state
   pub record Valid (M : Automaton E) : Type 0 where

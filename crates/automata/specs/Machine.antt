@@ -1,6 +1,6 @@
 -- Machines whose moves carry guards, the days that they accept, and what makes one complete and deterministic.
 use Rattle.std.specs.Prelude.{◌≡◌, ℕ, ◌<◌, Bool, true, List, [], ◌∷◌}
-use Rattle.std.specs.List.{AllByRecursion as All}
+use Rattle.std.specs.List.{AllByRecursion}
 use Rattle.guards.specs.Algebra.{Model}
 use Rattle.guards.specs.Lists.{Member}
 use Rattle.automata.specs.declared.moves.Move.{Move}
@@ -14,7 +14,7 @@ pub record Machine (G : Type 0) : Type 0 where
 module _ {E G : Type 0} (alg : Model E G) where
   -- a day is a list of domain entries
   abbrev pub Day : List E → Type 0
-  Day w = All (λ e. alg.domain e ≡ true) w
+  Day w = AllByRecursion (λ e. alg.domain e ≡ true) w
 
   -- a move takes the entry e from p to q
   abbrev pub Leads : Machine G → ℕ → E → ℕ → Type 0

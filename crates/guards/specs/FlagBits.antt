@@ -2,7 +2,7 @@
 use Rattle.std.specs.Prelude.{◌≡◌, ℕ, ◌/◌, ◌%◌, ◌^◌, ◌<◌, ◌≤◌, Bool, true, false, ◌&&◌, List, [], ◌∷◌, ◌==◌, refl}
 use Rattle.std.proofs.Common.{sym, ap, ap₂, ◌∙◌, arith}
 use Rattle.std.specs.Bool.{beq}
-use Rattle.std.specs.List.{AllByRecursion as All}
+use Rattle.std.specs.List.{AllByRecursion}
 use Rattle.std.proofs.lemmas.Bool.{and_parts, eq-eqb, ne_eqb, both_ways}
 use Rattle.std.proofs.lemmas.Bool.Decides.{nat_tests}
 use Rattle.guards.specs.Bits.{has}
@@ -10,15 +10,15 @@ use Rattle.guards.specs.Flags.{weights}
 use Rattle.guards.specs.Lists.{every}
 use Rattle.guards.specs.BitsLemmas.{digit, digit_low, has_digit}
 
-pub every_same : (p q : ℕ → Bool) (ws : List ℕ) → All (λ w. p w ≡ q w) ws → every p ws ≡ every q ws
+pub every_same : (p q : ℕ → Bool) (ws : List ℕ) → AllByRecursion (λ w. p w ≡ q w) ws → every p ws ≡ every q ws
 every_same p q [] h = refl
 every_same p q (w ∷ ws) h = ap₂ ◌&&◌ h.0 (every_same p q ws h.1)
 
-pub every_all : (p : ℕ → Bool) (ws : List ℕ) → every p ws ≡ true → All (λ w. p w ≡ true) ws
+pub every_all : (p : ℕ → Bool) (ws : List ℕ) → every p ws ≡ true → AllByRecursion (λ w. p w ≡ true) ws
 every_all p [] h = tt
 every_all p (w ∷ ws) h = let b = and_parts (p w) (every p ws) h in (b.0, every_all p ws b.1)
 
-pub all_every : (p : ℕ → Bool) (ws : List ℕ) → All (λ w. p w ≡ true) ws → every p ws ≡ true
+pub all_every : (p : ℕ → Bool) (ws : List ℕ) → AllByRecursion (λ w. p w ≡ true) ws → every p ws ≡ true
 all_every p [] h = refl
 all_every p (w ∷ ws) h = ap₂ ◌&&◌ h.0 (all_every p ws h.1)
 
@@ -33,7 +33,7 @@ every_and p q (w ∷ ws) = ap (λ t. (p w && q w) && t) (every_and p q ws) ∙ s
     swap false y u v = refl
 
 -- what holds of two powers of two for each of the five weights
-pub at_weights : (P : ℕ → Type 0) → ((k : ℕ) → P (2 ^ k)) → All P weights
+pub at_weights : (P : ℕ → Type 0) → ((k : ℕ) → P (2 ^ k)) → AllByRecursion P weights
 at_weights P h = (h 4, (h 3, (h 2, (h 1, (h 0, tt)))))
 
 -- ---- all five
@@ -45,7 +45,7 @@ same_digit k x y h = go (digit k x) (digit k y) (digit_low k x) (digit_low k y) 
     go c d h k e = grind (arith, nat_tests)
 
 -- two numbers of five bits with the same bits are the same
-pub same_number : (x y : ℕ) → x ≤ 31 → y ≤ 31 → All (λ w. has x w ≡ has y w) weights → x ≡ y
+pub same_number : (x y : ℕ) → x ≤ 31 → y ≤ 31 → AllByRecursion (λ w. has x w ≡ has y w) weights → x ≡ y
 unfolding digit
 same_number x y hx hy h =
     let a : x / 16 % 2 ≡ y / 16 % 2 = same_digit 4 x y h.0 in
@@ -69,7 +69,7 @@ beq_same false = refl
 abbrev pub same_bit : ℕ → ℕ → ℕ → Bool
 same_bit x y w = beq (has x w) (has y w)
 
-all_same : (x y : ℕ) (ws : List ℕ) → All (λ w. same_bit x y w ≡ true) ws → All (λ w. has x w ≡ has y w) ws
+all_same : (x y : ℕ) (ws : List ℕ) → AllByRecursion (λ w. same_bit x y w ≡ true) ws → AllByRecursion (λ w. has x w ≡ has y w) ws
 all_same x y [] h = tt
 all_same x y (w ∷ ws) h = (beq_true (has x w) (has y w) h.0, all_same x y ws h.1)
 

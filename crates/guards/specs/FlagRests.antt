@@ -4,7 +4,7 @@ use Rattle.std.proofs.Math.Path.{refl}
 use Rattle.std.proofs.Common.{sym, ap, ap₂, ◌∙◌, arith}
 use Rattle.std.specs.Bool.{beq}
 use Rattle.std.proofs.Math.Bool.{and-true, and_assoc}
-use Rattle.std.specs.List.{AllByRecursion as All}
+use Rattle.std.specs.List.{AllByRecursion}
 use Rattle.std.proofs.lemmas.Bool.{both_ways}
 use Rattle.guards.specs.Bits.{has}
 use Rattle.guards.specs.Flags.{weights, is_flags, is_pattern, agrees, flags_admit, compatible, fresh, fixed, split}
@@ -23,12 +23,12 @@ record Weight (w : ℕ) : Type 0 where
   -- a test at the bits of w is a test at w
   only : (t : ℕ → Bool) → every (λ v. not (has w v) || t v) weights ≡ t w
   -- what w has not is not at a bit of w
-  clear : (t : ℕ → Bool) → t w ≡ false → All (λ v. (has w v && t v) ≡ false) weights
+  clear : (t : ℕ → Bool) → t w ≡ false → AllByRecursion (λ v. (has w v && t v) ≡ false) weights
 
 -- each is one bit, and no bit of those after it
 abbrev Weights : List ℕ → Type 0
 Weights [] = Unit {0}
-Weights (w ∷ ws) = Weight w × All (λ v. has w v ≡ false) ws × Weights ws
+Weights (w ∷ ws) = Weight w × AllByRecursion (λ v. has w v ≡ false) ws × Weights ws
 
 weights_good : Weights weights
 weights_good = (
@@ -49,7 +49,7 @@ weights_good = (
   ),
 )
 
-all_both : (P Q R : ℕ → Type 0) → ((w : ℕ) → P w → Q w → R w) → (ws : List ℕ) → All P ws → All Q ws → All R ws
+all_both : (P Q R : ℕ → Type 0) → ((w : ℕ) → P w → Q w → R w) → (ws : List ℕ) → AllByRecursion P ws → AllByRecursion Q ws → AllByRecursion R ws
 all_both P Q R f [] p q = tt
 all_both P Q R f (w ∷ ws) p q = (f w p.0 q.0, all_both P Q R f ws p.1 q.1)
 
@@ -131,9 +131,9 @@ module _ (a b : FlagRow) where
 
   -- what a does not care for, g does not care for
   abbrev Free : FlagRow → List ℕ → Type 0
-  Free g ws = All (λ w. has a.care w ≡ false → has g.care w ≡ false) ws
+  Free g ws = AllByRecursion (λ w. has a.care w ≡ false → has g.care w ≡ false) ws
 
-  free_more : (g : FlagRow) (w : ℕ) (on : Bool) (ws : List ℕ) → All (λ v. has w v ≡ false) ws → Weights ws → Free g ws → Free (fixed g w on) ws
+  free_more : (g : FlagRow) (w : ℕ) (on : Bool) (ws : List ℕ) → AllByRecursion (λ v. has w v ≡ false) ws → Weights ws → Free g ws → Free (fixed g w on) ws
   free_more g w on [] p q f = tt
   free_more g w on (v ∷ ws) p q f = ((λ h. q.0.or g.care w ∙ ap₂ ◌||◌ (f.0 h) p.0), free_more g w on ws p.1 q.2 f.1)
 
