@@ -1,14 +1,14 @@
 -- The short calls keep to the law upon runs: each makes of the values and tables what the sheet's call makes of their machines.
-use Rattle.std.proofs.Common.{◌≡◌, ℕ, ◌+◌, ◌<◌, ◌≤◌, Bool, true, false, not, ◌&&◌, ◌||◌, eqb, ltb, leb, ◌⊎◌, List, [], ◌∷◌, ◌++◌, length, take, Some, None, Ok, Err, Option, Result, sym, refl, ap, ◌∙◌, subst, inl, inr, arith}
+use Rattle.std.proofs.Common.{◌≡◌, ℕ, ◌+◌, ◌<◌, Bool, true, false, not, ◌&&◌, ltb, leb, ◌⊎◌, List, [], ◌∷◌, length, take, Some, None, Ok, Err, Option, Result, sym, refl, ap, ◌∙◌, subst, inl, inr, arith}
 use Rattle.std.proofs.lemmas.List.{length-take-le, take_more_set}
-use Rattle.std.proofs.lemmas.Bool.{cases_lt, leb-false, ltb-false, lt-ltb, le-ltb, not_from_false}
+use Rattle.std.proofs.lemmas.Bool.{cases_lt, leb-false, ltb-false, lt-ltb, le-ltb}
 use Rattle.guards.specs.Algebra.{Model}
 use Rattle.automata.specs.Faults.{refuse_if}
 use Rattle.automata.specs.Limits.{most_moves}
 use Rattle.automata.specs.Machine.{Machine}
 use Rattle.automata.specs.Refusals.{Told, tell, told}
-use Rattle.automata.specs.Sheet.{Call, opening, adding, marking, writing, checking, turning, discarding, Fed, refused_call, InHand, open_clause, checked_clause, Sheet, made_unless, after, Refuses, Comes}
-use Rattle.automata.specs.Writing.{blank, with_state, with_ending, with_move, turned, state_why, ending_why, move_why}
+use Rattle.automata.specs.Sheet.{Call, opening, adding, marking, writing, turning, discarding, refused_call, open_clause, Sheet, made_unless, after, Refuses, Comes}
+use Rattle.automata.specs.Writing.{blank, with_state, with_ending, with_move, turned, move_why}
 use Rattle.automata.specs.declared.moves.Move.{Move}
 use Rattle.automata.specs.declared.refusals.Refused.{Refused}
 use Rattle.machines.specs.Calls.{Outcome, Opened, Added, Marked, Written, Turned, adding_refused, marking_refused, writing_refused}

@@ -1,8 +1,8 @@
 -- The call of checking: what its tests leave, and what the checked clause is.
-use Rattle.std.proofs.Common.{◌≡◌, ℕ, ◌≤◌, Bool, true, false, not, List, [], ◌++◌, length, take, drop, is_some, Some, None, Ok, Err, Option, Result, sym, refl, ap, ◌∙◌, subst, inl, inr}
+use Rattle.std.proofs.Common.{◌≡◌, ℕ, ◌≤◌, Bool, true, false, not, List, [], length, drop, is_some, Some, None, Ok, Err, Option, Result, sym, refl, ap, ◌∙◌, subst, inl, inr}
 use mathlib.Core.Bool.{false≢true}
-use Rattle.std.proofs.lemmas.List.{length-take-le, take_at, drop_at}
-use Rattle.std.proofs.lemmas.Bool.{cond-true, cond-false, or_parts, ltb-false}
+use Rattle.std.proofs.lemmas.List.{length-take-le}
+use Rattle.std.proofs.lemmas.Bool.{cond-true, cond-false}
 use Rattle.guards.specs.Algebra.{Model, Laws}
 use Rattle.guards.specs.Lists.{any}
 use Rattle.automata.specs.Faults.{refuse_if, clash_why, fault_why}
@@ -10,9 +10,8 @@ use Rattle.completion.specs.Rewriting.{check_short}
 use Rattle.machines.specs.CheckCall.{written, check_why, CheckedAs, CheckLaws}
 use Rattle.automata.specs.Checking.{live, checked, check_fits, CheckMeaning}
 use Rattle.automata.specs.Clashes.{lowest_clash}
-use Rattle.completion.specs.Endings.{holds}
-use Rattle.automata.specs.Limits.{most_states, most_moves, most_parts, mark_bytes}
-use Rattle.automata.specs.Machine.{Machine, InRange}
+use Rattle.automata.specs.Limits.{most_states, most_moves}
+use Rattle.automata.specs.Machine.{InRange}
 use Rattle.automata.specs.Refusals.{Told, tell, told}
 use Rattle.automata.specs.Sheet.{checking, checked_clause, Sheet, made_unless}
 use Rattle.automata.specs.Running.{stray}

@@ -1,19 +1,18 @@
 -- The call of joining: what its tests leave, what the joined rule is, and the promises of it.
-use Rattle.std.proofs.Common.{◌≡◌, ℕ, ◌<◌, ◌≤◌, Bool, true, false, ◌||◌, ltb, List, [], ◌∷◌, length, take, drop, Some, None, Ok, Err, Option, Result, sym, refl, ap, ◌∙◌, subst, ap₂, inl, inr, arith, MatchResult}
-use mathlib.Core.Bool.{false≢true}
+use Rattle.std.proofs.Common.{◌≡◌, ℕ, ◌<◌, ◌≤◌, false, ◌||◌, List, [], ◌∷◌, length, take, drop, Some, None, Ok, Err, Result, sym, ap, ◌∙◌, subst, inl, inr}
 use Rattle.std.proofs.lemmas.List.{length-take-le}
 use Rattle.std.proofs.lemmas.Bool.{cond-false, or_from, or_parts, ltb-false}
 use Rattle.guards.specs.Algebra.{Model, Laws}
 use Rattle.guards.specs.Lists.{any}
-use Rattle.automata.specs.Faults.{refuse_if, join_why}
+use Rattle.automata.specs.Faults.{join_why}
 use Rattle.automata.specs.Limits.{most_states, most_moves, mark_bytes}
 use Rattle.automata.specs.Machine.{Machine}
 use Rattle.automata.specs.Joining.{JoinMeaning}
-use Rattle.automata.specs.Product.{pairs, product}
+use Rattle.automata.specs.Product.{product}
 use Rattle.automata.specs.Reduction.{reduced}
-use Rattle.automata.specs.Refusals.{Told, tell, told}
+use Rattle.automata.specs.Refusals.{tell, told}
 use Rattle.automata.specs.Running.{stray}
-use Rattle.automata.specs.Sheet.{joining, nothing, Fed, accepted_call, refused_call, Sheet, made_unless, Comes}
+use Rattle.automata.specs.Sheet.{joining, accepted_call, Sheet, made_unless}
 use Rattle.automata.specs.declared.joins.JoinBy.{JoinBy}
 use Rattle.automata.specs.declared.moves.Move.{Move}
 use Rattle.automata.specs.declared.pairs.StatePair.{StatePair}
@@ -28,7 +27,7 @@ use Rattle.machines.specs.JoinCall.{join_short, joined_rule, Rejoined, joining_w
 use Rattle.reduction.specs.Pairing.{product_why, ProductBuilt}
 use Rattle.reduction.specs.Reducing.{ReducedAs}
 use Rattle.machines.specs.Runs.{rule_machine, with_nothing, with_checked}
-use Rattle.completion.specs.Values.{Within, machine}
+use Rattle.completion.specs.Values.{machine}
 use Rattle.machines.specs.declared.clauses.CheckedClause.{CheckedClause}
 use Rattle.completion.specs.declared.counts.Counts.{Counts}
 use Rattle.machines.specs.declared.clauses.Rule.{Rule}

@@ -1,10 +1,9 @@
 -- The promises on the calls that keep them: a new sheet.
-use Rattle.std.proofs.Common.{◌≡◌, ℕ, ◌<◌, ◌≤◌, eqb, ltb, List, [], ◌∷◌, length, take, set, Ok, Err, Result, sym, refl, ap, ◌∙◌, subst, arith}
+use Rattle.std.proofs.Common.{◌≡◌, ◌<◌, ltb, List, [], length, take, Ok, Err, Result, sym, ap, ◌∙◌, arith}
 use Rattle.std.proofs.lemmas.List.{take_more_set}
 use Rattle.std.proofs.lemmas.Bool.{ltb-false}
 use Rattle.guards.specs.Algebra.{Model, Laws}
 use Rattle.automata.specs.Limits.{most_moves}
-use Rattle.automata.specs.Machine.{Machine}
 use Rattle.automata.specs.Sheet.{Comes}
 use Rattle.automata.specs.Writing.{new_rule}
 use Rattle.automata.specs.declared.moves.Move.{Move}

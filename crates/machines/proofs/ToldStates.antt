@@ -1,8 +1,8 @@
 -- Telling apart shows a shortest day that just one of two states of a standing rule accepts.
-use Rattle.std.proofs.Common.{◌≡◌, ℕ, ◌<◌, ◌≤◌, Bool, true, false, cond, List, [], ◌∷◌, ◌++◌, length, take, drop, Some, None, Ok, Err, Option, Result, sym, refl, ap, ◌∙◌, subst, arith, length-append, MatchResult}
+use Rattle.std.proofs.Common.{◌≡◌, ℕ, ◌≤◌, Bool, true, false, cond, List, [], ◌∷◌, ◌++◌, length, take, drop, None, Ok, Err, Result, sym, refl, ap, ◌∙◌, subst, arith, length-append, MatchResult}
 use mathlib.Core.Bool.{false≢true}
 use Rattle.std.proofs.lemmas.List.{take_at}
-use Rattle.std.proofs.lemmas.Bool.{cond-false, le-ltb, lt-leb, or_from}
+use Rattle.std.proofs.lemmas.Bool.{le-ltb, lt-leb, or_from}
 use Rattle.guards.specs.Algebra.{Model, Laws}
 use Rattle.guards.specs.Lists.{any}
 use Rattle.automata.specs.Faults.{refuse_if}
@@ -10,7 +10,6 @@ use Rattle.automata.specs.Limits.{most_moves, most_word, mark_bytes}
 use Rattle.automata.specs.Machine.{Machine}
 use Rattle.automata.specs.Refusals.{Told, tell, said}
 use Rattle.automata.specs.Running.{stray}
-use Rattle.automata.specs.Sheet.{Fed, InHand, Sheet, Comes}
 use Rattle.automata.specs.Telling.{word_of, Shortest}
 use Rattle.automata.specs.declared.moves.Move.{Move}
 use Rattle.automata.specs.declared.refusals.Refusal.{Refusal}
@@ -19,7 +18,7 @@ use Rattle.automata.proofs.Strays.{no_stray}
 use Rattle.machines.specs.Promised.{ToldShortest}
 use Rattle.machines.specs.Runs.{rule_machine}
 use Rattle.reduction.specs.Words.{word_or, word_length, word_placed}
-use Rattle.machines.specs.TellCall.{tell_short, no_state, unless, told_apart}
+use Rattle.machines.specs.TellCall.{tell_short, unless, told_apart}
 use Rattle.machines.specs.declared.clauses.Rule.{Rule}
 
 -- where every test passes, the word decides

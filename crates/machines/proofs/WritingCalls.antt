@@ -1,5 +1,5 @@
 -- The call of writing a move: what refuses it, test by test.
-use Rattle.std.proofs.Common.{◌≡◌, ℕ, ◌<◌, ◌≤◌, ltb, leb, List, [], ◌∷◌, length, Some, ◌∙◌}
+use Rattle.std.proofs.Common.{◌≡◌, ◌<◌, ◌≤◌, ltb, leb, List, [], ◌∷◌, length, Some, ◌∙◌}
 use Rattle.std.proofs.lemmas.Bool.{cond-true, cond-false, lt-ltb, le-ltb, le-leb, lt-leb}
 use Rattle.automata.specs.Limits.{most_moves}
 use Rattle.automata.specs.Refusals.{tell}

@@ -1,20 +1,17 @@
 -- The call of checking: when it refuses, what it makes, and what that means.
-use Rattle.std.specs.Prelude.{◌≡◌, ℕ, ◌≤◌, Bool, true, false, cond, not, ◌&&◌, ◌||◌, ltb, List, [], length, drop, Some, None, count_by, Option, MatchOption}
+use Rattle.std.specs.Prelude.{◌≡◌, ℕ, false, cond, not, ◌&&◌, List, [], length, drop, count_by, Option}
 use Rattle.guards.specs.Algebra.{Model}
 use Rattle.guards.specs.Lists.{any}
 use Rattle.automata.specs.Faults.{refuse_if, machine_why}
-use Rattle.automata.specs.Checking.{live, successors, order, rest, checked, check_fits, CheckMeaning}
+use Rattle.automata.specs.Checking.{live, successors, order, rest, checked, CheckMeaning}
 use Rattle.automata.specs.Clashes.{lowest_clash, Lowest}
-use Rattle.automata.specs.Limits.{most_states, most_moves, most_parts, mark_bytes}
 use Rattle.automata.specs.Machine.{Machine}
 use Rattle.automata.specs.Refusals.{Told, tell}
 use Rattle.automata.specs.Running.{stray}
 use Rattle.automata.specs.Search.{Searched}
 use Rattle.completion.specs.Values.{machine}
 use Rattle.machines.specs.declared.clauses.CheckedClause.{CheckedClause}
-use Rattle.completion.specs.declared.counts.Counts.{Counts}
 use Rattle.machines.specs.declared.clauses.OpenClause.{OpenClause}
-use Rattle.completion.specs.declared.endings.Endings.{Endings}
 use Rattle.automata.specs.declared.moves.Move.{Move}
 use Rattle.completion.specs.Rewriting.{check_short}
 

@@ -1,5 +1,5 @@
 -- The call of joining: when it refuses, what it makes, and what that means.
-use Rattle.std.specs.Prelude.{◌≡◌, ℕ, Bool, ◌||◌, List, [], ◌∷◌, length, drop, Some, None, Ok, Err, Option, Result, MatchResult, nat_lt}
+use Rattle.std.specs.Prelude.{◌≡◌, ℕ, Bool, ◌||◌, List, [], ◌∷◌, length, drop, Some, None, Option, Result, MatchResult, nat_lt}
 use Rattle.guards.specs.Algebra.{Model}
 use Rattle.automata.specs.Faults.{refuse_if, join_why}
 use Rattle.automata.specs.Joining.{JoinMeaning}

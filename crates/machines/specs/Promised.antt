@@ -1,5 +1,5 @@
 -- The promises, as the calls that keep them state them.
-use Rattle.std.specs.Prelude.{◌≡◌, ℕ, ◌<◌, ◌≤◌, List, [], length, take, IfOk, Result, MatchResult, ◌≢◌}
+use Rattle.std.specs.Prelude.{ℕ, ◌<◌, ◌≤◌, List, [], length, take, IfOk, Result, MatchResult, ◌≢◌}
 use Rattle.guards.specs.Algebra.{Model}
 use Rattle.automata.specs.Limits.{most_moves, most_word, mark_bytes}
 use Rattle.automata.specs.Promises.{Kept}

@@ -1,13 +1,11 @@
 -- The call of running: what it answers for a day, and what that means.
-use Rattle.std.specs.Prelude.{ℕ, ◌+◌, ◌<◌, ◌≤◌, Bool, cond, ◌&&◌, ◌||◌, List, [], ◌∷◌, length, take, Some, None, Ok, Err, Decides, Option, Result, MatchResult, nat_lt}
-use Rattle.std.specs.Option.{unwrap_or}
+use Rattle.std.specs.Prelude.{ℕ, ◌<◌, ◌≤◌, Bool, cond, List, [], ◌∷◌, length, take, Ok, Err, Decides, Result, MatchResult, nat_lt}
 use Rattle.guards.specs.Algebra.{Model}
-use Rattle.automata.specs.Automaton.{Automaton}
 use Rattle.guards.specs.Lists.{any}
 use Rattle.automata.specs.Running.{walk, next, stray}
 use Rattle.completion.specs.Endings.{holds}
 use Rattle.automata.specs.Limits.{most_moves}
-use Rattle.automata.specs.Machine.{Machine, Day, LeadsTo, Accepts, Proper}
+use Rattle.automata.specs.Machine.{Day, LeadsTo, Accepts, Proper}
 use Rattle.automata.specs.Refusals.{Told, tell}
 use Rattle.completion.specs.Values.{machine}
 use Rattle.completion.specs.declared.counts.Counts.{Counts}

@@ -1,5 +1,5 @@
 -- The law upon runs: the sheet that a call leaves comes by the calls before it and this one, accepted or refused as it was.
-use Rattle.std.specs.Prelude.{ℕ, List, ◌∷◌, Some, None, Ok, Err, Option, Result}
+use Rattle.std.specs.Prelude.{ℕ, List, ◌∷◌, Ok, Err, Result}
 use Rattle.guards.specs.Algebra.{Model}
 use Rattle.automata.specs.Machine.{Machine}
 use Rattle.automata.specs.Refusals.{Told, told}

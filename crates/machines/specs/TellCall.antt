@@ -1,5 +1,5 @@
 -- The call of telling two states apart: the word that it writes, or its refusal.
-use Rattle.std.specs.Prelude.{◌≡◌, ℕ, Bool, false, cond, ◌||◌, List, [], ◌∷◌, ◌++◌, length, Some, None, Ok, Err, Option, Result, nat_le, nat_lt}
+use Rattle.std.specs.Prelude.{ℕ, Bool, cond, ◌||◌, List, [], ◌∷◌, length, Some, None, Err, Option, Result, nat_le, nat_lt}
 use Rattle.guards.specs.Algebra.{Model}
 use Rattle.guards.specs.Lists.{any}
 use Rattle.automata.specs.Limits.{most_moves, most_word, mark_bytes}

@@ -81,7 +81,8 @@ impl Rule {
         ensures value { result ≡ self.now.counts.states }
         ensures least { LeastOfKind (A.model alg.now) Q }
     {
-        self.counts.states
+        let Counts { states, moves: _ } = self.counts;
+        states
     }
 
     pub fn counts(&self) -> Counts

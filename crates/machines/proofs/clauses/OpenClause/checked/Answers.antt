@@ -31,7 +31,7 @@ invariant_of-result g c =
     let m = g.A.Algebra.model c.args.alg.now in
     let tests = no_fault m c.args.self.counts.states (take c.args.self.counts.moves c.args.table.now) c.in_default.ensures in
     let made = c.in-Some-rewrite.ensures in
-    (checked_within m (g.met.A.Algebra.lawful c.args.alg.now) c.args.self c.args.table.now tests.0 tests.1 c.in-Some-rewrite.made.0 c.in-Some-rewrite.made.1 c.rewrite.new.table made.1 made.2 made.3, tt)
+    record { within = checked_within m (g.met.A.Algebra.lawful c.args.alg.now) c.args.self c.args.table.now tests.0 tests.1 c.in-Some-rewrite.made.0 c.in-Some-rewrite.made.1 c.rewrite.new.table made.1 made.2 made.3 }
 
 pub returns : goal.returns
 returns g c =

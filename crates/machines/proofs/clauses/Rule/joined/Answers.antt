@@ -3,7 +3,7 @@ use Rattle.machines.proofs.JoinedCalls.{enough, sized, joined_as}
 use Rattle.machines.proofs.clauses.Rule.joined.Goals as goal
 
 pub invariant_of-result : goal.invariant_of-result
-invariant_of-result g c = (c.in-Ok.ensures.2, tt)
+invariant_of-result g c = record { within = c.in-Ok.ensures.2 }
 
 pub returns-in-Ok : goal.returns-in-Ok
 returns-in-Ok g c =
