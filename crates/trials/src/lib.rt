@@ -22,6 +22,8 @@ mod records;
 #[cfg(test)]
 mod running;
 #[cfg(test)]
+mod sheets;
+#[cfg(test)]
 mod steps;
 #[cfg(test)]
 mod telling;
