@@ -74,7 +74,9 @@ def main():
     def spelled(word):
         if word[0].isupper() and not word.endswith("-of"):
             return "".join(p[0].upper() + p[1:] for p in word.split("-"))
-        return word.replace("-", "_").lower() if word.endswith("-of") and word[0].isupper() else word.replace("-", "_")
+        # the library's older word for a list's element is `get_or` now
+        snake = word.replace("-", "_").replace("getD", "get_or")
+        return snake.lower() if word[0].isupper() else snake
 
     new = {w: spelled(w) for w in own}
     for w in sorted(own):

@@ -11,7 +11,7 @@ use Rattle.automata.specs.declared.moves.Move.{Move}
 use Rattle.automata.proofs.LiveMoves.{live_move, live_step, live_reached, taken, not_taken, rest_not_taken, order_searched}
 use Rattle.automata.proofs.Members.{member_some, member_left, member_right, member_cases, member_map, map_member, joined_member, member_joined, any_some, some_any}
 use Rattle.automata.proofs.Numbered.{MoveOf, Numbered}
-use Rattle.automata.proofs.Places.{member_getD, number_tells, place_at, place_own, at_place}
+use Rattle.automata.proofs.Places.{member_get_or, number_tells, place_at, place_own, at_place}
 use Rattle.automata.proofs.RestMeanings.{rest_any, rest_some}
 
 -- the nodes of the checked machine are the reached states, and None, the sink
@@ -110,7 +110,7 @@ module _ {E G : Type 0} (alg : Model E G) (laws : Laws alg) (M : Machine G) (ran
 
       each : (q : ℕ) → q < (checked alg M).count → (x : Option ℕ) × Node alg M x × (place alg M x ≡ q)
       each q h = elim (cases_lt q (length (order alg M))) [
-        | inl lt ↦ (Some (get_or (order alg M) q 0), member_getD (order alg M) q 0 lt, at_place eqb number_tells (order alg M) q 0 (order_searched alg laws M range).once lt)
+        | inl lt ↦ (Some (get_or (order alg M) q 0), member_get_or (order alg M) q 0 lt, at_place eqb number_tells (order alg M) q 0 (order_searched alg laws M range).once lt)
         | inr ge ↦ elim (cases_Bool (has_sink alg M)) [
           | inl t ↦ (None, t, let c : ◌≡◌ {A = ℕ} (cond (has_sink alg M) 1 0) 1 = cond-true (has_sink alg M) 1 0 t in omega arith)
           | inr f ↦ let c : ◌≡◌ {A = ℕ} (cond (has_sink alg M) 1 0) 0 = cond-false (has_sink alg M) 1 0 f in absurd (omega arith)

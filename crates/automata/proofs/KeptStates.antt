@@ -6,7 +6,7 @@ use Rattle.guards.specs.Lists.{Member, every}
 use Rattle.automata.specs.Reduction.{kept, class_of, KeptStates}
 use Rattle.automata.specs.Search.{place_of}
 use Rattle.automata.proofs.Members.{member_left, member_right, member_cases, every_each, not_every}
-use Rattle.automata.proofs.Places.{member_getD, number_tells, place_at}
+use Rattle.automata.proofs.Places.{member_get_or, number_tells, place_at}
 
 -- each is lower than those after it, and apart from them
 abbrev pub InOrder : (ℕ → ℕ → Bool) → List ℕ → Type 0
@@ -40,7 +40,7 @@ module _ (apart : ℕ → ℕ → Bool) where
   pub in_order_at : (ks : List ℕ) → InOrder apart ks → (i j : ℕ) → i < j → j < length ks → apart (get_or ks i 0) (get_or ks j 0) ≡ true
   in_order_at [] o i j h l = absurd (omega arith)
   in_order_at (x ∷ ks) o i zero h l = absurd (omega arith)
-  in_order_at (x ∷ ks) o zero (suc j) h l = (o.0 (get_or ks j 0) (member_getD ks j 0 (omega arith))).1
+  in_order_at (x ∷ ks) o zero (suc j) h l = (o.0 (get_or ks j 0) (member_get_or ks j 0 (omega arith))).1
   in_order_at (x ∷ ks) o (suc i) (suc j) h l = in_order_at ks o.1 i j (omega arith) (omega arith)
 
   -- the state i is kept, or it is not
@@ -121,7 +121,7 @@ module _ (apart : ℕ → ℕ → Bool) where
     class_at (x ∷ ks) o (suc j) h =
         let y = get_or ks j 0 in
         let l : j < length ks = omega arith in
-        cond-true (apart x y) (suc (class_of apart ks y)) 0 (o.0 y (member_getD ks j 0 l)).1 ∙ ap suc (class_at ks o.1 j l)
+        cond-true (apart x y) (suc (class_of apart ks y)) 0 (o.0 y (member_get_or ks j 0 l)).1 ∙ ap suc (class_at ks o.1 j l)
 
     module _ (n : ℕ) where
       pub class_in : (q : ℕ) → q < n → class_of apart (kept apart n) q < length (kept apart n)

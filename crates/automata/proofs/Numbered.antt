@@ -13,7 +13,7 @@ use Rattle.automata.specs.declared.moves.Move.{Move}
 use Rattle.automata.proofs.Automata.{run_append}
 use Rattle.automata.proofs.MachineRuns.{run_only}
 use Rattle.automata.proofs.Members.{joined_member, member_joined}
-use Rattle.automata.proofs.Places.{member_getD, place_at, place_own, at_place}
+use Rattle.automata.proofs.Places.{member_get_or, place_at, place_own, at_place}
 
 -- the move goes from the node x, admits something, and leads where the step does
 pub record MoveOf {E G X : Type 0} (alg : Model E G) (Node : X → Type 0) (number : X → ℕ) (step : X → E → X) (x : X) (v : Move G) : Type 0 where
@@ -42,7 +42,7 @@ pub numbered_joined : {E G X : Type 0} (alg : Model E G) (same : X → X → Boo
 numbered_joined alg same tells xs once d endings placed step move_of some = record {
   inside = λ x m. (place_at same tells x x xs m).0;
   own = λ x y. place_own same tells x y xs;
-  each = λ q h. (get_or xs q d, member_getD xs q d h, at_place same tells xs q d once h);
+  each = λ q h. (get_or xs q d, member_get_or xs q d h, at_place same tells xs q d once h);
   out = λ v. joined_member placed v xs;
   into = λ x v. member_joined placed x v xs;
   move_of = move_of;

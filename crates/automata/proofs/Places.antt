@@ -12,14 +12,14 @@ module _ {X : Type 0} where
   member_place x (y ∷ xs) (inl e) = (0, ap Some e)
   member_place x (y ∷ xs) (inr m) = let r = member_place x xs m in (suc r.0, r.1)
 
-  pub member_getD : (xs : List X) (i : ℕ) (d : X) → i < length xs → Member (get_or xs i d) xs
-  member_getD [] i d h = absurd (omega arith)
-  member_getD (x ∷ xs) zero d h = inl refl
-  member_getD (x ∷ xs) (suc i) d h = inr (member_getD xs i d (omega arith))
+  pub member_get_or : (xs : List X) (i : ℕ) (d : X) → i < length xs → Member (get_or xs i d) xs
+  member_get_or [] i d h = absurd (omega arith)
+  member_get_or (x ∷ xs) zero d h = inl refl
+  member_get_or (x ∷ xs) (suc i) d h = inr (member_get_or xs i d (omega arith))
 
   -- what was read at a place is a member
   pub member_read : (xs : List X) (i : ℕ) (x : X) → i < length xs → x ≡ get_or xs i x → Member x xs
-  member_read xs i x lt read = subst (λ (y : X). Member y xs) (sym read) (member_getD xs i x lt)
+  member_read xs i x lt read = subst (λ (y : X). Member y xs) (sym read) (member_get_or xs i x lt)
 
   -- what was read by one default is read by itself
   pub read_itself : (xs : List X) (i : ℕ) (d x : X) → i < length xs → x ≡ get_or xs i d → x ≡ get_or xs i x
@@ -49,7 +49,7 @@ module _ {X : Type 0} (same : X → X → Bool) (tells : Tells same) where
   at_place (x ∷ xs) zero d n h = cond-true (same x x) 0 (suc (place_of same x xs)) (tells.itself x)
   at_place (x ∷ xs) (suc i) d n h =
       let y = get_or xs i d in
-      let m : Member y xs = member_getD xs i d (omega arith) in
+      let m : Member y xs = member_get_or xs i d (omega arith) in
       elim (cases_Bool (same y x)) [
         | inl t ↦ absurd (n.0 (subst (λ (v : X). Member v xs) (tells.equal y x t) m))
         | inr f ↦ cond-false (same y x) 0 (suc (place_of same y xs)) f ∙ ap suc (at_place xs i d n.1 (omega arith))

@@ -18,7 +18,7 @@ use Rattle.automata.proofs.KeptStates.{in_order_at, kept_below, kept_order, kept
 use Rattle.automata.proofs.MachineRuns.{step_leads, automaton_valid, run_only}
 use Rattle.automata.proofs.Members.{member_map, map_member, member_kept, kept_member, any_some, some_any}
 use Rattle.automata.proofs.Moore.{same_days}
-use Rattle.automata.proofs.Places.{member_getD}
+use Rattle.automata.proofs.Places.{member_get_or}
 use Rattle.automata.proofs.SeparatedDays.{below_decides, leads_step}
 use Rattle.automata.proofs.Separating.{below_itself}
 
@@ -56,7 +56,7 @@ module _ {E G : Type 0} (alg : Model E G) (M : Machine G) where
 
 module _ {E G : Type 0} (alg : Model E G) (laws : Laws alg) (M : Machine G) (proper : Proper alg M) (small : M.count ≤ most_states) where
   first_in : (j : ℕ) → j < length (all_kept alg M) → first_of alg M j < M.count
-  first_in j h = kept_below (separated_below alg M most_rounds) M.count (first_of alg M j) (member_getD (all_kept alg M) j 0 h)
+  first_in j h = kept_below (separated_below alg M most_rounds) M.count (first_of alg M j) (member_get_or (all_kept alg M) j 0 h)
 
   class_below : (q : ℕ) → q < M.count → class alg M q < length (all_kept alg M)
   class_below = class_in (separated_below alg M most_rounds) (below_itself alg M most_rounds) M.count
@@ -74,7 +74,7 @@ module _ {E G : Type 0} (alg : Model E G) (laws : Laws alg) (M : Machine G) (pro
   reduced_leads : (j : ℕ) (e : E) (q : ℕ) → j < length (all_kept alg M) → Leads alg M (first_of alg M j) e q → Leads alg (reduced alg M) j e (class alg M q)
   reduced_leads j e q h (v, m, from, admits, to) = (
     redirected (separated_below alg M most_rounds) (all_kept alg M) v,
-    new_move alg M v m (subst (λ (i : ℕ). Member i (all_kept alg M)) (sym from) (member_getD (all_kept alg M) j 0 h)),
+    new_move alg M v m (subst (λ (i : ℕ). Member i (all_kept alg M)) (sym from) (member_get_or (all_kept alg M) j 0 h)),
     ap (class alg M) from ∙ class_of_first j h,
     admits,
     ap (class alg M) to,

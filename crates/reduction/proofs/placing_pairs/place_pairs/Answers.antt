@@ -1,14 +1,14 @@
 use Rattle.std.proofs.Common.{[], get_or, refl, ◌∙◌}
 use Rattle.automata.specs.Product.{start_pair}
 use Rattle.automata.proofs.Appending.{no_room, append_more, append_short, append_all}
-use Rattle.automata.proofs.Places.{member_getD, read_itself}
+use Rattle.automata.proofs.Places.{member_get_or, read_itself}
 use Rattle.reduction.specs.Pairing.{pair_placed}
 use Rattle.reduction.proofs.placing_pairs.place_pairs.Goals as goal
 
 pub place_pair-requires : goal.place_pair-requires
 place_pair-requires g c =
     let x = get_or c.args.pairs.now c.loop-pair.pair-index start_pair in
-    record { marked = c.requires.marked x (member_getD c.args.pairs.now c.loop-pair.pair-index start_pair c.loop-pair-test.true); room = c.loop-pair.invariant.0 }
+    record { marked = c.requires.marked x (member_get_or c.args.pairs.now c.loop-pair.pair-index start_pair c.loop-pair-test.true); room = c.loop-pair.invariant.0 }
 
 pub returns-in_err-filled : goal.returns-in_err-filled
 returns-in_err-filled g c =
