@@ -2,7 +2,7 @@
 use Rattle.std.proofs.Common.{◌≡◌, ℕ, ◌<◌, ◌≤◌, Bool, true, false, not, ◌||◌, ltb, leb, [], ◌∷◌, length, is_some, Some, None, Ok, Err, Option, Result, refl, ap, arith}
 use Rattle.std.proofs.lemmas.Bool.{true≢false, leb-false, ltb-false}
 use Rattle.guards.specs.Algebra.{Model}
-use Rattle.guards.specs.Lists.{any}
+use Rattle.std.specs.List.{list_any}
 use Rattle.automata.specs.Checking.{check_fits}
 use Rattle.automata.specs.Clashes.{lowest_clash}
 use Rattle.automata.specs.Faults.{refuse_if, clash_why, machine_why, join_why}
@@ -68,15 +68,15 @@ module _ {E G : Type 0} where
       (leb-false M.count v.from a.0, leb-false M.count v.to b.0)
 
 module _ {E G : Type 0} (alg : Model E G) where
-  pub machine_passed : (M : Machine G) → machine_why alg M ≡ None → (any (stray M.count) M.moves ≡ false) × (lowest_clash alg M.moves ≡ None)
+  pub machine_passed : (M : Machine G) → machine_why alg M ≡ None → (list_any (stray M.count) M.moves ≡ false) × (lowest_clash alg M.moves ≡ None)
   machine_passed M e =
       let room : Option (Told E) = refuse_if (not (check_fits alg M)) (tell 6 []) None in
-      let a = passed (any (stray M.count) M.moves) (tell 8 []) (clash_why (lowest_clash alg M.moves) room) e in
+      let a = passed (list_any (stray M.count) M.moves) (tell 8 []) (clash_why (lowest_clash alg M.moves) room) e in
       (a.0, no_clash (lowest_clash alg M.moves) room a.1)
 
   pub join_passed : (R N : Machine G) (way : JoinBy) → join_why alg R N way ≡ None → length (pairs alg R N) ≤ most_states
   join_passed R N way e =
       let large : Option (Told E) = refuse_if (ltb most_moves (length (product alg R N way).moves)) (tell 6 []) None in
       let many : Option (Told E) = refuse_if (ltb most_states (length (pairs alg R N))) (tell 7 []) large in
-      let a = passed (any (stray R.count) R.moves || any (stray N.count) N.moves) (tell 8 []) many e in
+      let a = passed (list_any (stray R.count) R.moves || list_any (stray N.count) N.moves) (tell 8 []) many e in
       ltb-false most_states (length (pairs alg R N)) (passed (ltb most_states (length (pairs alg R N))) (tell 7 []) large a.1).0

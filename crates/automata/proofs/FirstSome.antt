@@ -1,13 +1,11 @@
--- What a question to each place of a list finds first, and the steps of a loop that asks each place in turn.
-use Rattle.std.proofs.Common.{◌≡◌, ℕ, suc, ◌+◌, ◌-◌, ◌<◌, ◌≤◌, List, [], ◌∷◌, length, get_or, drop, Some, None, Option, sym, refl, ap, ◌∙◌, inl, inr, arith, MatchOption}
+-- What a question to each place of a list finds first.
+use Rattle.std.proofs.Common.{◌≡◌, ℕ, suc, ◌+◌, ◌-◌, ◌<◌, ◌≤◌, List, [], ◌∷◌, drop, Some, None, Option, sym, refl, ap, ◌∙◌, inl, inr, arith, MatchOption}
 use Rattle.std.specs.Option.{option_map}
 use Rattle.std.specs.List.{slice_get}
 use Rattle.std.proofs.iter.SplitParts.{each_way}
 use Rattle.std.proofs.iter.runs.Lists.{nth_drop}
-use Rattle.std.proofs.lemmas.List.{at_drop_all}
 use Rattle.std.proofs.lemmas.Bool.{cases_eq}
 use Rattle.guards.specs.Lists.{or_else, first_some}
-use Rattle.automata.proofs.Loops.{at_read_more}
 
 -- a question whose answer is made of another's
 module _ {X Y : Type 0} (f : X → Y) where
@@ -59,17 +57,3 @@ module _ {X Y : Type 0} (ask : ℕ → X → Option Y) (xs : List X) where
 
   pub first_some_is : (i : ℕ) → MatchOption (first_some ask i (drop i xs)) (NoAnswer i) (FirstAnswer i)
   first_some_is i = asked (drop i xs) i (nth_drop i xs)
-
--- a loop that asks each place in turn: what is left gives the answer
-module _ {X Y : Type 0} (ask : ℕ → X → Option Y) (xs : List X) (i : ℕ) (answer : Option Y) (inv : first_some ask i (drop i xs) ≡ answer) where
-  asked_at : (x : X) (o : Option Y) → i < length xs → x ≡ get_or xs i x → ask i x ≡ o → or_else o (first_some ask (i + 1) (drop (i + 1) xs)) ≡ answer
-  asked_at x o lt read is = ap (λ p. or_else p (first_some ask (i + 1) (drop (i + 1) xs))) (sym is) ∙ sym (at_read_more (first_some ask i) xs i x lt read) ∙ inv
-
-  pub asked_hit : (x : X) (y : Y) → i < length xs → x ≡ get_or xs i x → ask i x ≡ Some y → Some y ≡ answer
-  asked_hit x y = asked_at x (Some y)
-
-  pub asked_more : (x : X) → i < length xs → x ≡ get_or xs i x → ask i x ≡ None → first_some ask (i + 1) (drop (i + 1) xs) ≡ answer
-  asked_more x = asked_at x None
-
-  pub asked_none : length xs ≤ i → None ≡ answer
-  asked_none h = sym (at_drop_all (first_some ask i) xs i h) ∙ inv

@@ -5,7 +5,8 @@ use Rattle.std.proofs.lemmas.Bool.{cases_Bool, and_parts, and_from, eq-eqb, eqb-
 use Rattle.guards.specs.Algebra.{Model, Laws}
 use Rattle.guards.specs.Lists.{Member, or_else, first_some}
 use Rattle.automata.specs.Machine.{Machine, Leads}
-use Rattle.automata.specs.Telling.{WordStep, step_by, first_step}
+use Rattle.automata.specs.Telling.{step_by, first_step}
+use Rattle.automata.specs.declared.telling.WordStep.{WordStep}
 use Rattle.automata.specs.declared.moves.Move.{Move}
 use Rattle.automata.proofs.FirstSome.{mapped_some}
 use Rattle.automata.proofs.Fitting.{Fit, meet_parts, meet_from}

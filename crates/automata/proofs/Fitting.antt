@@ -3,7 +3,8 @@ use Rattle.std.proofs.Common.{◌≡◌, ℕ, Bool, true, false, ◌&&◌, eqb, 
 use Rattle.std.proofs.lemmas.Bool.{and_parts, and_from, eq-eqb, eqb-true, true≢false}
 use Rattle.std.proofs.lemmas.Bool.Decides.{same_from_decides}
 use Rattle.guards.specs.Algebra.{Model, Laws}
-use Rattle.guards.specs.Lists.{Member, any}
+use Rattle.std.specs.List.{list_any}
+use Rattle.guards.specs.Lists.{Member}
 use Rattle.automata.specs.Rounds.{differ, fit, some_fit}
 use Rattle.automata.specs.declared.moves.Move.{Move}
 use Rattle.automata.proofs.Members.{any_some, some_any}
@@ -59,13 +60,13 @@ module _ {E G : Type 0} (alg : Model E G) (R : ℕ → ℕ → Bool) (p q : ℕ)
 
   pub some_fit_moves : (vs : List (Move G)) → some_fit alg vs R p q ≡ true → (u : Move G) × (v : Move G) × Member u vs × Member v vs × FitMoves u v
   some_fit_moves vs h =
-      let a = any_some (λ u. any (fit alg R p q u) vs) vs h in
+      let a = any_some (λ u. list_any (fit alg R p q u) vs) vs h in
       let u = a.0 in
       let b = any_some (fit alg R p q u) vs a.2 in
       (u, b.0, a.1, b.1, fit_moves u b.0 b.2)
 
   pub moves_some_fit : (vs : List (Move G)) (u v : Move G) → Member u vs → Member v vs → FitMoves u v → some_fit alg vs R p q ≡ true
-  moves_some_fit vs u v um vm f = some_any (λ u. any (fit alg R p q u) vs) u vs um (some_any (fit alg R p q u) v vs vm (moves_fit u v f))
+  moves_some_fit vs u v um vm f = some_any (λ u. list_any (fit alg R p q u) vs) u vs um (some_any (fit alg R p q u) v vs vm (moves_fit u v f))
 
   -- an entry, and moves of p and of q that admit it and lead to states of which R holds
   pub record Fit (vs : List (Move G)) : Type 0 where

@@ -2,7 +2,8 @@
 use Rattle.std.proofs.Common.{◌≡◌, ℕ, zero, suc, ◌<◌, ◌≤◌, Bool, true, false, cond, eqb, ◌⊎◌, List, [], ◌∷◌, ◌++◌, length, get_or, sym, refl, ap, ◌∙◌, subst, inl, inr, arith}
 use Rattle.std.proofs.lemmas.List.{length-append}
 use Rattle.std.proofs.lemmas.Bool.{cases_eq, cases_Bool, both_ways, cond-true, cond-false}
-use Rattle.guards.specs.Lists.{Member, every}
+use Rattle.std.specs.List.{list_all}
+use Rattle.guards.specs.Lists.{Member}
 use Rattle.automata.specs.Reduction.{kept, class_of, KeptStates}
 use Rattle.automata.specs.Search.{place_of}
 use Rattle.automata.proofs.Members.{member_left, member_right, member_cases, every_each, not_every}
@@ -44,11 +45,11 @@ module _ (apart : ℕ → ℕ → Bool) where
   in_order_at (x ∷ ks) o (suc i) (suc j) h l = in_order_at ks o.1 i j (omega arith) (omega arith)
 
   -- the state i is kept, or it is not
-  kept_cases : (i : ℕ) → ((every (λ r. apart r i) (kept apart i) ≡ true) × (kept apart (suc i) ≡ kept apart i ++ (i ∷ []))) ⊎ ((every (λ r. apart r i) (kept apart i) ≡ false) × (kept apart (suc i) ≡ kept apart i))
+  kept_cases : (i : ℕ) → ((list_all (λ r. apart r i) (kept apart i) ≡ true) × (kept apart (suc i) ≡ kept apart i ++ (i ∷ []))) ⊎ ((list_all (λ r. apart r i) (kept apart i) ≡ false) × (kept apart (suc i) ≡ kept apart i))
   unfolding kept
-  kept_cases i = elim (cases_Bool (every (λ r. apart r i) (kept apart i))) [
-    | inl t ↦ inl (t, cond-true (every (λ r. apart r i) (kept apart i)) (kept apart i ++ (i ∷ [])) (kept apart i) t)
-    | inr f ↦ inr (f, cond-false (every (λ r. apart r i) (kept apart i)) (kept apart i ++ (i ∷ [])) (kept apart i) f)
+  kept_cases i = elim (cases_Bool (list_all (λ r. apart r i) (kept apart i))) [
+    | inl t ↦ inl (t, cond-true (list_all (λ r. apart r i) (kept apart i)) (kept apart i ++ (i ∷ [])) (kept apart i) t)
+    | inr f ↦ inr (f, cond-false (list_all (λ r. apart r i) (kept apart i)) (kept apart i ++ (i ∷ [])) (kept apart i) f)
   ]
 
   pub kept_below : (n r : ℕ) → Member r (kept apart n) → r < n

@@ -19,10 +19,8 @@ pub mod Numbered
 pub mod Places
 pub mod ProductStrays
 pub mod Products
-pub mod Queueing
 pub mod ReachedPairs
 pub mod Reduced
-pub mod RestLoop
 pub mod RestMeanings
 pub mod Samples
 pub mod Searching
@@ -32,6 +30,4 @@ pub mod Settled
 pub mod Sheets
 pub mod StandingRules
 pub mod Strays
-pub mod Tracked
-pub mod Visits
 pub mod Words

@@ -2,7 +2,8 @@
 use Rattle.std.proofs.Common.{◌≡◌, ℕ, Bool, true, false, not, ◌&&◌, eqb, is_some, Some, None, sym, refl, ap, ◌∙◌, inl, inr, arith}
 use Rattle.std.proofs.lemmas.Bool.{cases_Bool, both_ways, and_parts, and_from, eq-eqb, eqb-true, not-true}
 use Rattle.guards.specs.Algebra.{Model, Laws}
-use Rattle.guards.specs.Lists.{Member, any}
+use Rattle.std.specs.List.{list_any}
+use Rattle.guards.specs.Lists.{Member}
 use Rattle.automata.specs.Checking.{live, successors, order, rest}
 use Rattle.automata.specs.Machine.{Machine, Leads, InRange, Deterministic}
 use Rattle.automata.specs.Running.{next}
@@ -37,7 +38,7 @@ module _ {E G : Type 0} (alg : Model E G) (laws : Laws alg) (M : Machine G) wher
 
   -- a live move from p admits the entry
   abbrev pub taken : ℕ → E → Bool
-  taken p e = any (λ v. alg.admits v.guard e) (live alg M p)
+  taken p e = list_any (λ v. alg.admits v.guard e) (live alg M p)
 
   pub not_taken : (p : ℕ) (e : E) → taken p e ≡ false → next alg M.moves p e ≡ None
   not_taken p e f = found_nothing (λ v. eqb v.from p && alg.admits v.guard e) (λ v. v.to) M.moves (λ v m.

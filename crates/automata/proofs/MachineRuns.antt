@@ -1,19 +1,20 @@
 -- Runs of a proper machine: a day leads from each state to just one, the walk answers it, and so does the automaton.
-use Rattle.std.proofs.Common.{◌≡◌, ℕ, ◌+◌, ◌<◌, Bool, true, false, cond, ◌&&◌, eqb, List, [], ◌∷◌, Some, None, Ok, Decides, unwrap_or, sym, refl, ap, ◌∙◌, subst, inl, inr}
+use Rattle.std.proofs.Common.{◌≡◌, ℕ, ◌+◌, ◌<◌, Bool, true, false, cond, ◌&&◌, eqb, List, [], ◌∷◌, Some, None, Ok, Decides, option_map, unwrap_or, sym, refl, ap, ◌∙◌, subst, inl, inr}
 use Rattle.std.proofs.lemmas.Bool.{and_parts, and_from, both_ways, eq-eqb, eqb-true, cond-false}
+use Rattle.std.specs.List.{find}
 use Rattle.guards.specs.Algebra.{Model, Laws}
 use Rattle.guards.specs.Lists.{Member}
 use Rattle.automata.specs.Automaton.{run, accepted, Valid}
 use Rattle.automata.specs.Machine.{Machine, Day, Leads, LeadsTo, Accepts, Deterministic, Proper}
-use Rattle.automata.specs.Running.{first_found, onward, walk, next, automaton}
+use Rattle.automata.specs.Running.{onward, walk, next, automaton}
 use Rattle.automata.specs.declared.moves.Move.{Move}
 use Rattle.automata.proofs.Automata.{run_in}
 
 -- where one passes, the first that passes is found
-pub found_some : {X Y : Type 0} (test : X → Bool) (get : X → Y) (x : X) (xs : List X) → Member x xs → test x ≡ true → (y : X) × Member y xs × (test y ≡ true) × (first_found test get xs ≡ Some (get y))
+pub found_some : {X Y : Type 0} (test : X → Bool) (get : X → Y) (x : X) (xs : List X) → Member x xs → test x ≡ true → (y : X) × Member y xs × (test y ≡ true) × (option_map get (find test xs) ≡ Some (get y))
 found_some test get x [] m t = absurd m
 found_some {X} test get x (z ∷ xs) m t =
-    (elim (test z) as (λ b. test z ≡ b → (y : X) × Member y (z ∷ xs) × (test y ≡ true) × (cond b (Some (get z)) (first_found test get xs) ≡ Some (get y))) [
+    (elim (test z) as (λ b. test z ≡ b → (y : X) × Member y (z ∷ xs) × (test y ≡ true) × (option_map get (cond b (Some z) (find test xs)) ≡ Some (get y))) [
       | true ↦ λ h. (z, inl refl, h, refl)
       | false ↦ λ h. elim m [
         | inl e ↦ absurd (both_ways (test z) h (ap test e ∙ t))
@@ -22,10 +23,10 @@ found_some {X} test get x (z ∷ xs) m t =
     ]) refl
 
 -- where none passes, none is found
-pub found_nothing : {X Y : Type 0} (test : X → Bool) (get : X → Y) (xs : List X) → ((x : X) → Member x xs → test x ≡ false) → first_found test get xs ≡ None
+pub found_nothing : {X Y : Type 0} (test : X → Bool) (get : X → Y) (xs : List X) → ((x : X) → Member x xs → test x ≡ false) → option_map get (find test xs) ≡ None
 found_nothing test get [] none = refl
 found_nothing test get (x ∷ xs) none =
-    cond-false (test x) (Some (get x)) (first_found test get xs) (none x (inl refl)) ∙ found_nothing test get xs (λ y m. none y (inr m))
+    ap (option_map get) (cond-false (test x) (Some x) (find test xs) (none x (inl refl))) ∙ found_nothing test get xs (λ y m. none y (inr m))
 
 module _ {E G : Type 0} (alg : Model E G) (laws : Laws alg) (M : Machine G) where
   pub leads_once : Deterministic alg M → (p : ℕ) (e : E) (q r : ℕ) → Leads alg M p e q → Leads alg M p e r → q ≡ r

@@ -1,9 +1,9 @@
 -- Members of lists, lists without repeats, and the pigeonhole.
 use Rattle.std.proofs.Common.{◌≡◌, ℕ, zero, suc, ◌+◌, ◌<◌, ◌≤◌, Bool, true, false, cond, ◌||◌, ltb, ◌⊎◌, List, [], ◌∷◌, ◌++◌, map, length, count_by, filter, sym, refl, ap, ◌∙◌, subst, inl, inr, arith}
-use Rattle.std.specs.List.{flat_map as joined}
+use Rattle.std.specs.List.{flat_map as joined, list_all, list_any}
 use Rattle.std.proofs.lemmas.List.{length-map}
 use Rattle.std.proofs.lemmas.Bool.{cases_eq, or_cases, or_left, or_right, and_parts, and_from, and_cases, both_ways, true≢false, false≢true, or_from, or_parts, lt-ltb}
-use Rattle.guards.specs.Lists.{Member, any, every, is_some}
+use Rattle.guards.specs.Lists.{Member, is_some}
 use Rattle.guards.specs.Counting.{count_cons}
 use Rattle.automata.specs.Search.{NoRepeat}
 
@@ -111,46 +111,46 @@ module _ {X : Type 0} (test : X → Bool) where
         | false ↦ λ h k. let r = kept_member x xs k in (inr r.0, r.1)
       ]) refl m
 
-  pub none_any : (xs : List X) → ((x : X) → Member x xs → test x ≡ false) → any test xs ≡ false
+  pub none_any : (xs : List X) → ((x : X) → Member x xs → test x ≡ false) → list_any test xs ≡ false
   none_any [] h = refl
-  none_any (x ∷ xs) h = or_from (test x) (any test xs) (h x (inl refl)) (none_any xs (λ y m. h y (inr m)))
+  none_any (x ∷ xs) h = or_from (test x) (list_any test xs) (h x (inl refl)) (none_any xs (λ y m. h y (inr m)))
 
-  pub none_each : (x : X) (xs : List X) → any test xs ≡ false → Member x xs → test x ≡ false
+  pub none_each : (x : X) (xs : List X) → list_any test xs ≡ false → Member x xs → test x ≡ false
   none_each x [] h m = absurd m
-  none_each x (y ∷ xs) h (inl e) = ap test (sym e) ∙ (or_parts (test y) (any test xs) h).0
-  none_each x (y ∷ xs) h (inr m) = none_each x xs (or_parts (test y) (any test xs) h).1 m
+  none_each x (y ∷ xs) h (inl e) = ap test (sym e) ∙ (or_parts (test y) (list_any test xs) h).0
+  none_each x (y ∷ xs) h (inr m) = none_each x xs (or_parts (test y) (list_any test xs) h).1 m
 
-  pub any_some : (xs : List X) → any test xs ≡ true → (x : X) × Member x xs × (test x ≡ true)
+  pub any_some : (xs : List X) → list_any test xs ≡ true → (x : X) × Member x xs × (test x ≡ true)
   any_some [] h = absurd (false≢true h)
   any_some (x ∷ xs) h =
-      elim (or_cases (test x) (any test xs) h) [ inl a ↦ (x, inl refl, a) | inr b ↦ let r = any_some xs b in (r.0, inr r.1, r.2) ]
+      elim (or_cases (test x) (list_any test xs) h) [ inl a ↦ (x, inl refl, a) | inr b ↦ let r = any_some xs b in (r.0, inr r.1, r.2) ]
 
-  pub some_any : (x : X) (xs : List X) → Member x xs → test x ≡ true → any test xs ≡ true
+  pub some_any : (x : X) (xs : List X) → Member x xs → test x ≡ true → list_any test xs ≡ true
   some_any x [] m h = absurd m
-  some_any x (y ∷ xs) (inl e) h = or_left (test y) (any test xs) (ap test e ∙ h)
-  some_any x (y ∷ xs) (inr m) h = or_right (test y) (any test xs) (some_any x xs m h)
+  some_any x (y ∷ xs) (inl e) h = or_left (test y) (list_any test xs) (ap test e ∙ h)
+  some_any x (y ∷ xs) (inr m) h = or_right (test y) (list_any test xs) (some_any x xs m h)
 
-  pub any_counted : (xs : List X) → any test xs ≡ ltb 0 (count_by test xs)
+  pub any_counted : (xs : List X) → list_any test xs ≡ ltb 0 (count_by test xs)
   any_counted [] = refl
   any_counted (x ∷ xs) =
-      rw (count_cons test x xs) (elim (test x) as (λ b. (b || any test xs) ≡ ltb 0 (cond b 1 0 + count_by test xs)) [
+      rw (count_cons test x xs) (elim (test x) as (λ b. (b || list_any test xs) ≡ ltb 0 (cond b 1 0 + count_by test xs)) [
         | true ↦ sym (lt-ltb 0 (1 + count_by test xs) (omega arith))
         | false ↦ any_counted xs ∙ ap (ltb 0) (omega arith)
       ])
 
-  pub every_each : (x : X) (xs : List X) → every test xs ≡ true → Member x xs → test x ≡ true
+  pub every_each : (x : X) (xs : List X) → list_all test xs ≡ true → Member x xs → test x ≡ true
   every_each x [] h m = absurd m
-  every_each x (y ∷ xs) h (inl e) = ap test (sym e) ∙ (and_parts (test y) (every test xs) h).0
-  every_each x (y ∷ xs) h (inr m) = every_each x xs (and_parts (test y) (every test xs) h).1 m
+  every_each x (y ∷ xs) h (inl e) = ap test (sym e) ∙ (and_parts (test y) (list_all test xs) h).0
+  every_each x (y ∷ xs) h (inr m) = every_each x xs (and_parts (test y) (list_all test xs) h).1 m
 
-  pub each_every : (xs : List X) → ((x : X) → Member x xs → test x ≡ true) → every test xs ≡ true
+  pub each_every : (xs : List X) → ((x : X) → Member x xs → test x ≡ true) → list_all test xs ≡ true
   each_every [] h = refl
-  each_every (y ∷ xs) h = and_from (test y) (every test xs) (h y (inl refl)) (each_every xs (λ x m. h x (inr m)))
+  each_every (y ∷ xs) h = and_from (test y) (list_all test xs) (h y (inl refl)) (each_every xs (λ x m. h x (inr m)))
 
-  pub not_every : (xs : List X) → every test xs ≡ false → (x : X) × Member x xs × (test x ≡ false)
+  pub not_every : (xs : List X) → list_all test xs ≡ false → (x : X) × Member x xs × (test x ≡ false)
   not_every [] h = absurd (true≢false h)
   not_every (x ∷ xs) h =
-      elim (and_cases (test x) (every test xs) h) [ inl a ↦ (x, inl refl, a) | inr b ↦ let r = not_every xs b in (r.0, inr r.1, r.2) ]
+      elim (and_cases (test x) (list_all test xs) h) [ inl a ↦ (x, inl refl, a) | inr b ↦ let r = not_every xs b in (r.0, inr r.1, r.2) ]
 
 -- the numbers below n, the highest first
 abbrev pub below : ℕ → List ℕ

@@ -2,7 +2,8 @@
 use Rattle.std.proofs.Common.{◌≡◌, ℕ, zero, suc, ◌+◌, ◌<◌, ◌≤◌, true, false, List, [], ◌∷◌, length, sym, refl, ◌∙◌, subst, inl, inr, arith}
 use Rattle.std.proofs.lemmas.Bool.{cases_eq, cases_Bool, both_ways}
 use Rattle.guards.specs.Algebra.{Model, Laws}
-use Rattle.guards.specs.Lists.{Member, every}
+use Rattle.std.specs.List.{list_all}
+use Rattle.guards.specs.Lists.{Member}
 use Rattle.automata.specs.Automaton.{accepted}
 use Rattle.automata.specs.Limits.{most_states, most_rounds}
 use Rattle.automata.specs.Machine.{Machine, Day, Proper}
@@ -54,7 +55,7 @@ module _ {E G : Type 0} (alg : Model E G) (laws : Laws alg) (M : Machine G) (pro
 
   -- one of two states that are separated in round k joins
   join_one : (k p q : ℕ) (xs : List ℕ) → ApartStates alg M k xs → p < M.count → q < M.count → separated alg M k p q ≡ true → (x : ℕ) × ApartStates alg M (suc k) (x ∷ xs)
-  join_one k p q xs a hp hq s = elim (cases_Bool (every (λ r. separated_below alg M k p r) xs)) [
+  join_one k p q xs a hp hq s = elim (cases_Bool (list_all (λ r. separated_below alg M k p r) xs)) [
     | inl all ↦ (p, join k p xs a hp (λ y m. below_more alg M k (suc k) p y (omega arith) (every_each (λ r. separated_below alg M k p r) y xs all m)))
     | inr some ↦
         let n = not_every (λ r. separated_below alg M k p r) xs some in

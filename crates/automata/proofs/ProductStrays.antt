@@ -2,18 +2,19 @@
 use Rattle.std.proofs.Common.{◌≡◌, ◌<◌, false, length, subst}
 use Rattle.std.proofs.lemmas.Bool.{lt-leb, or_from}
 use Rattle.guards.specs.Algebra.{Model, Laws}
-use Rattle.guards.specs.Lists.{any}
+use Rattle.std.specs.List.{list_any}
 use Rattle.automata.specs.Machine.{Machine}
-use Rattle.automata.specs.Product.{PairMove, same_pair, pair_moves, pairs, pair_number, product_moves, product}
+use Rattle.automata.specs.Product.{same_pair, pair_moves, pairs, pair_number, product_moves, product}
 use Rattle.automata.specs.Running.{stray}
 use Rattle.automata.specs.declared.joins.JoinBy.{JoinBy}
 use Rattle.automata.specs.declared.moves.Move.{Move}
+use Rattle.automata.specs.declared.pairs.PairMove.{PairMove}
 use Rattle.automata.proofs.Members.{joined_member, map_member, none_any}
 use Rattle.automata.proofs.Places.{place_at}
 use Rattle.automata.proofs.ReachedPairs.{pair_tells, pairs_closed}
 
-pub product_no_stray : {E G : Type 0} (alg : Model E G) → Laws alg → (M N : Machine G) → 0 < M.count → 0 < N.count → any (stray M.count) M.moves ≡ false → any (stray N.count) N.moves ≡ false
-    → (way : JoinBy) → any (stray (product alg M N way).count) (product alg M N way).moves ≡ false
+pub product_no_stray : {E G : Type 0} (alg : Model E G) → Laws alg → (M N : Machine G) → 0 < M.count → 0 < N.count → list_any (stray M.count) M.moves ≡ false → list_any (stray N.count) N.moves ≡ false
+    → (way : JoinBy) → list_any (stray (product alg M N way).count) (product alg M N way).moves ≡ false
 product_no_stray {G = G} alg laws M N some_rule some_clause no_rule no_clause way =
     let xs = pairs alg M N in
     let count = length xs in

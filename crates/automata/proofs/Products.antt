@@ -7,11 +7,12 @@ use Rattle.guards.specs.Algebra.{Model, Laws}
 use Rattle.guards.specs.Lists.{Member}
 use Rattle.automata.specs.Automaton.{run, accepted}
 use Rattle.automata.specs.Machine.{Machine, Day, Leads, LeadsTo, Deterministic, Proper}
-use Rattle.automata.specs.Product.{same_pair, start_pair, PairMove, met, pair_moves, pair_targets, pairs, pair_number, product_moves, chosen, product}
+use Rattle.automata.specs.Product.{same_pair, start_pair, met, pair_moves, pair_targets, pairs, pair_number, product_moves, chosen, product}
 use Rattle.automata.specs.Running.{automaton}
 use Rattle.automata.specs.Search.{Searched}
 use Rattle.automata.specs.declared.joins.JoinBy.{JoinBy}
 use Rattle.automata.specs.declared.moves.Move.{Move}
+use Rattle.automata.specs.declared.pairs.PairMove.{PairMove}
 use Rattle.automata.specs.declared.pairs.StatePair.{StatePair}
 use Rattle.automata.proofs.MachineRuns.{leads_next, step_leads, automaton_accepts}
 use Rattle.automata.proofs.Members.{member_map, map_member}

@@ -1,16 +1,17 @@
 -- Pairs of states: the moves of a pair are meets of moves, and the search finds each reached pair once.
 use Rattle.std.proofs.Common.{◌≡◌, ℕ, zero, suc, ◌*◌, ◌<◌, true, false, ◌&&◌, eqb, List, map, length, is_some, filter, refl, ap, ◌∙◌, subst, arith}
-use Rattle.std.specs.List.{flat_map}
+use Rattle.std.specs.List.{flat_map, list_any}
 use Rattle.std.proofs.lemmas.List.{length-append, length-map}
 use Rattle.std.proofs.lemmas.Bool.{and_parts, and_from, eq-eqb, eqb-true}
 use Rattle.guards.specs.Algebra.{Model, Laws}
-use Rattle.guards.specs.Lists.{Member, any}
+use Rattle.guards.specs.Lists.{Member}
 use Rattle.automata.specs.Machine.{Machine}
-use Rattle.automata.specs.Product.{same_pair, start_pair, PairMove, joins, met, pair_moves, pair_targets, pairs}
+use Rattle.automata.specs.Product.{same_pair, start_pair, joins, met, pair_moves, pair_targets, pairs}
 use Rattle.automata.specs.Running.{stray}
 use Rattle.automata.specs.Search.{Tells, Searched, Reaches}
 use Rattle.automata.specs.Search.Reaches.{itself, after}
 use Rattle.automata.specs.declared.moves.Move.{Move}
+use Rattle.automata.specs.declared.pairs.PairMove.{PairMove}
 use Rattle.automata.specs.declared.pairs.StatePair.{StatePair}
 use Rattle.automata.proofs.Members.{member_map, map_member, member_joined, joined_member, member_kept, kept_member, none_each, below, length_below, member_below}
 use Rattle.automata.proofs.Samples.{sampled, admitted}
@@ -81,11 +82,12 @@ module _ {E G : Type 0} (alg : Model E G) (laws : Laws alg) (us vs : List (Move 
 
 -- neither machine has a stray move, and both have a start
 module _ {E G : Type 0} (alg : Model E G) (laws : Laws alg) (M N : Machine G) (some_rule : 0 < M.count) (some_clause : 0 < N.count)
-    (no_rule : any (stray M.count) M.moves ≡ false) (no_clause : any (stray N.count) N.moves ≡ false) where
+    (no_rule : list_any (stray M.count) M.moves ≡ false) (no_clause : list_any (stray N.count) N.moves ≡ false) where
   abbrev next_pairs : StatePair → List StatePair
   next_pairs = pair_targets alg M.moves N.moves
 
-  target_in : (x y : StatePair) → Member y (next_pairs x) → (y.rule < M.count) × (y.clause < N.count)
+  -- where the moves of a pair lead, the states are below the counts
+  pub target_in : (x y : StatePair) → Member y (next_pairs x) → (y.rule < M.count) × (y.clause < N.count)
   target_in x y m =
       let k = map_member (λ a. a.to) y (pair_moves alg M.moves N.moves x) m in
       let o = pair_move alg laws M.moves N.moves x k.0 k.1 in

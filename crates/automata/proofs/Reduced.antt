@@ -4,7 +4,8 @@ use Rattle.std.proofs.ByRecursion.{All-append}
 use Rattle.std.proofs.lemmas.List.{length-map, get_or-map, get_or_past}
 use Rattle.std.proofs.lemmas.Bool.{cases_eq, cases_lt, cases_order, both_ways, eq-eqb, eqb-true}
 use Rattle.guards.specs.Algebra.{Model, Laws}
-use Rattle.guards.specs.Lists.{Member, any}
+use Rattle.std.specs.List.{list_any}
+use Rattle.guards.specs.Lists.{Member}
 use Rattle.automata.specs.Automaton.{run, accepted, Reduced}
 use Rattle.automata.specs.Limits.{most_states, most_rounds}
 use Rattle.automata.specs.Machine.{Machine, Day, Leads, LeadsTo, InRange, Complete, Deterministic, Proper}
@@ -40,7 +41,7 @@ module _ {E G : Type 0} (alg : Model E G) (M : Machine G) where
   old_move : (v : Move G) → Member v (reduced alg M).moves → (u : Move G) × Member u M.moves × Member u.from (all_kept alg M) × (redirected (separated_below alg M most_rounds) (all_kept alg M) u ≡ v)
   old_move v m =
       let ks = all_kept alg M in
-      let stays : Move G → Bool = λ v. any (λ r. eqb r v.from) ks in
+      let stays : Move G → Bool = λ v. list_any (λ r. eqb r v.from) ks in
       let a = map_member (redirected (separated_below alg M most_rounds) ks) v (filter stays M.moves) m in
       let u = a.0 in
       let b = kept_member stays u M.moves a.1 in
@@ -50,7 +51,7 @@ module _ {E G : Type 0} (alg : Model E G) (M : Machine G) where
   new_move : (u : Move G) → Member u M.moves → Member u.from (all_kept alg M) → Member (redirected (separated_below alg M most_rounds) (all_kept alg M) u) (reduced alg M).moves
   new_move u m from =
       let ks = all_kept alg M in
-      let stays : Move G → Bool = λ v. any (λ r. eqb r v.from) ks in
+      let stays : Move G → Bool = λ v. list_any (λ r. eqb r v.from) ks in
       member_map (redirected (separated_below alg M most_rounds) ks) u (filter stays M.moves)
       (member_kept stays u M.moves m (some_any (λ r. eqb r u.from) u.from ks from (eq-eqb u.from u.from refl)))
 

@@ -1,7 +1,8 @@
 -- The rest that moves leave admits each domain entry that no move admits just once, and nothing else.
 use Rattle.std.proofs.Common.{◌≡◌, ℕ, ◌+◌, Bool, true, false, cond, not, ◌&&◌, ◌||◌, ltb, List, [], ◌∷◌, count_by, sym, refl, ap, ◌∙◌, inl, inr}
 use Rattle.guards.specs.Algebra.{Model, Laws}
-use Rattle.guards.specs.Lists.{Member, any}
+use Rattle.std.specs.List.{list_any}
+use Rattle.guards.specs.Lists.{Member}
 use Rattle.guards.specs.Counting.{count_cons, count_append}
 use Rattle.automata.specs.Checking.{without, rest_of}
 use Rattle.automata.specs.declared.moves.Move.{Move}
@@ -14,7 +15,7 @@ module _ {E G : Type 0} (alg : Model E G) (laws : Laws alg) where
     passes g = alg.admits g e
 
     abbrev taken : List (Move G) → Bool
-    taken vs = any (λ v. alg.admits v.guard e) vs
+    taken vs = list_any (λ v. alg.admits v.guard e) vs
 
     without_count : (g : G) (gs : List G) → count_by passes (without alg g gs) ≡ cond (passes g) 0 (count_by passes gs)
     without_count g [] = elim (passes g) as (λ b. ◌≡◌ {A = ℕ} 0 (cond b 0 0)) [ true ↦ refl | false ↦ refl ]
@@ -40,7 +41,7 @@ module _ {E G : Type 0} (alg : Model E G) (laws : Laws alg) where
         both false b n = refl
 
   -- an entry of the domain that no move admits is admitted by just one guard of the rest, and any other entry by none
-  pub rest_once : (vs : List (Move G)) (e : E) → count_by (λ g. alg.admits g e) (rest_of alg (alg.whole ∷ []) vs) ≡ cond (alg.domain e && not (any (λ v. alg.admits v.guard e) vs)) 1 0
+  pub rest_once : (vs : List (Move G)) (e : E) → count_by (λ g. alg.admits g e) (rest_of alg (alg.whole ∷ []) vs) ≡ cond (alg.domain e && not (list_any (λ v. alg.admits v.guard e) vs)) 1 0
   rest_once vs e = rest_count e (alg.whole ∷ []) vs ∙ rw (laws.whole_admits e) (both (alg.domain e) (taken e vs))
     where
       both : (a b : Bool) → cond b 0 (0 + cond a 1 0) ≡ cond (a && not b) 1 0
@@ -49,7 +50,7 @@ module _ {E G : Type 0} (alg : Model E G) (laws : Laws alg) where
       both false true = refl
       both false false = refl
 
-  pub rest_any : (vs : List (Move G)) (e : E) → any (λ g. alg.admits g e) (rest_of alg (alg.whole ∷ []) vs) ≡ (alg.domain e && not (any (λ v. alg.admits v.guard e) vs))
+  pub rest_any : (vs : List (Move G)) (e : E) → list_any (λ g. alg.admits g e) (rest_of alg (alg.whole ∷ []) vs) ≡ (alg.domain e && not (list_any (λ v. alg.admits v.guard e) vs))
   rest_any vs e = any_counted (λ g. alg.admits g e) (rest_of alg (alg.whole ∷ []) vs) ∙ rw (rest_once vs e) (both (alg.domain e && not (taken e vs)))
     where
       both : (a : Bool) → ltb 0 (cond a 1 0) ≡ a

@@ -2,7 +2,8 @@
 use Rattle.std.proofs.Common.{◌≡◌, ℕ, zero, suc, ◌+◌, ◌<◌, ◌≤◌, Bool, ◌⊎◌, List, [], ◌∷◌, ◌++◌, length, get_or, drop, sym, refl, ap, ◌∙◌, subst, inl, inr, add-one, arith}
 use Rattle.std.proofs.lemmas.List.{append-nil, append_assoc, length-append, length_push, nil_from_length, drop_at, drop_all}
 use Rattle.std.proofs.lemmas.Bool.{cases_Bool, both_ways, cond-true, cond-false}
-use Rattle.guards.specs.Lists.{Member, any}
+use Rattle.std.specs.List.{list_any}
+use Rattle.guards.specs.Lists.{Member}
 use Rattle.automata.specs.Search.{Tells, add, add_all, visit_next, visit, reached, NoRepeat, Reaches, Searched}
 use Rattle.automata.specs.Search.Reaches.{itself, after}
 use Rattle.automata.proofs.Loops.{at_read_more}
@@ -38,9 +39,9 @@ module _ {X : Type 0} (same : X → X → Bool) (successors : X → List X) wher
 
 module _ {X : Type 0} (same : X → X → Bool) (tells : Tells same) where
   add_cases : (found : List X) (y : X) → (Member y found × (add same found y ≡ found)) ⊎ ((Member y found → ⊥) × (add same found y ≡ found ++ (y ∷ [])))
-  add_cases found y = elim (cases_Bool (any (same y) found)) [
-    | inl t ↦ let r = any_some (same y) found t in inl (rw (tells.equal y r.0 r.2) r.1, cond-true (any (same y) found) found (found ++ (y ∷ [])) t)
-    | inr f ↦ inr (λ m. both_ways (any (same y) found) f (some_any (same y) y found m (tells.itself y)), cond-false (any (same y) found) found (found ++ (y ∷ [])) f)
+  add_cases found y = elim (cases_Bool (list_any (same y) found)) [
+    | inl t ↦ let r = any_some (same y) found t in inl (rw (tells.equal y r.0 r.2) r.1, cond-true (list_any (same y) found) found (found ++ (y ∷ [])) t)
+    | inr f ↦ inr (λ m. both_ways (list_any (same y) found) f (some_any (same y) y found m (tells.itself y)), cond-false (list_any (same y) found) found (found ++ (y ∷ [])) f)
   ]
 
   -- the new nodes stand behind those found

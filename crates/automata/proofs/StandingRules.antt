@@ -1,5 +1,5 @@
 -- Rules that stand: the rule of a new sheet, one turned, and one with a clause joined are proper and reduced, and accept the days that they should.
-use Rattle.std.proofs.Common.{◌≡◌, ℕ, ◌<◌, ◌≤◌, Bool, true, false, cond, not, ◌&&◌, eqb, List, [], ◌∷◌, length, Some, None, Decides, unwrap_or, sym, refl, ap, ◌∙◌, subst, inl, inr, arith}
+use Rattle.std.proofs.Common.{◌≡◌, ℕ, ◌<◌, ◌≤◌, Bool, true, false, cond, not, ◌&&◌, eqb, List, [], ◌∷◌, length, Some, None, Decides, option_map, unwrap_or, sym, refl, ap, ◌∙◌, subst, inl, inr, arith}
 use Rattle.std.proofs.lemmas.Bool.{true≢false, false≢true, and_parts, eq-eqb, eqb-true, lt-ltb, ltb-true}
 use Rattle.std.proofs.lemmas.Bool.Decides.{Decides-at, Decides-not, Decides-and, Decides-or}
 use Rattle.guards.specs.Algebra.{Model, Laws}
@@ -59,7 +59,10 @@ module _ {E G : Type 0} (alg : Model E G) (laws : Laws alg) where
   new_run [] = refl
   new_run (e ∷ w) = ap (λ q. run (automaton alg (new_rule alg)).next q w) (stays (eqb 0 0 && alg.admits alg.whole e)) ∙ new_run w
     where
-      stays : (b : Bool) → ◌≡◌ {A = ℕ} (unwrap_or (cond b (Some 0) None) 0) 0
+      whole : Move G
+      whole = record { from = 0; guard = alg.whole; to = 0 }
+
+      stays : (b : Bool) → ◌≡◌ {A = ℕ} (unwrap_or (option_map (λ v. v.to) (cond b (Some whole) None)) 0) 0
       stays true = refl
       stays false = refl
 

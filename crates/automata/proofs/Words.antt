@@ -7,7 +7,8 @@ use Rattle.automata.specs.Limits.{most_states, most_rounds, most_word}
 use Rattle.automata.specs.Machine.{Machine, Day, Proper}
 use Rattle.automata.specs.Rounds.{differ, separated, round_of}
 use Rattle.automata.specs.Running.{automaton}
-use Rattle.automata.specs.Telling.{WordStep, first_step, go_on, word, word_in, word_of, JustOne, Shortest}
+use Rattle.automata.specs.Telling.{first_step, go_on, word, word_in, word_of, JustOne, Shortest}
+use Rattle.automata.specs.declared.telling.WordStep.{WordStep}
 use Rattle.automata.proofs.FirstSteps.{first_step_of, fit_step}
 use Rattle.automata.proofs.Fitting.{differ_swap, differ_same}
 use Rattle.automata.proofs.MachineRuns.{automaton_accepts}

@@ -1,8 +1,8 @@
 -- Checking: the machine that a check makes of a clause as written, and when it refuses.
-use Rattle.std.specs.Prelude.{◌≡◌, ℕ, ◌+◌, ◌<◌, ◌≤◌, Bool, true, false, cond, ◌&&◌, List, [], ◌∷◌, ◌++◌, map, length, take, is_some as option_is_some, filter, Option, MatchOption, ◌==◌, nat_eq, nat_le, slice_index_or}
-use Rattle.std.specs.List.{flat_map}
+use Rattle.std.specs.Prelude.{ℕ, ◌+◌, ◌<◌, Bool, false, cond, ◌&&◌, List, [], ◌∷◌, ◌++◌, map, length, is_some as option_is_some, filter, ◌==◌, nat_eq, nat_le, slice_index_or}
+use Rattle.std.specs.List.{flat_map, list_all, list_any}
 use Rattle.guards.specs.Algebra.{Model}
-use Rattle.guards.specs.Lists.{any, every, is_some}
+use Rattle.guards.specs.Lists.{is_some}
 use Rattle.automata.specs.Limits.{most_moves, most_parts}
 use Rattle.automata.specs.Machine.{Machine, Day, Accepts, LeadsTo, Proper}
 use Rattle.automata.specs.Search.{place_of, reached}
@@ -23,11 +23,6 @@ module _ {E G : Type 0} (alg : Model E G) where
   rest_fits gs [] = nat_le (length gs) most_parts
   rest_fits gs (v ∷ vs) = nat_le (length gs) most_parts && rest_fits (without v.guard gs) vs
 
-  -- the list holds the rest that the moves leave of the whole guard, or it had no room at some stage
-  abbrev pub RestFilled : List (Move G) → List G → Option ℕ → Type 0
-  RestFilled vs list r =
-      MatchOption r (rest_fits (alg.whole ∷ []) vs ≡ false) (λ n. (rest_fits (alg.whole ∷ []) vs ≡ true) × (n ≤ length list) × (take n list ≡ rest_of (alg.whole ∷ []) vs))
-
   -- the move goes from p and admits something
   abbrev pub is_live : ℕ → Move G → Bool
   is_live p v = v.from == p && option_is_some (alg.sample v.guard)
@@ -35,10 +30,6 @@ module _ {E G : Type 0} (alg : Model E G) where
   -- where the live moves from p lead, in table order
   abbrev pub targets : List (Move G) → ℕ → List ℕ
   targets vs p = map (λ v. v.to) (filter (is_live p) vs)
-
-  -- the guards without the move's, if that is live
-  abbrev pub narrowed : ℕ → Move G → List G → List G
-  narrowed p v gs = cond (is_live p v) (without v.guard gs) gs
 
 module _ {E G : Type 0} (alg : Model E G) (M : Machine G) where
   -- the live moves from p, in table order
@@ -62,7 +53,7 @@ module _ {E G : Type 0} (alg : Model E G) (M : Machine G) where
 
   -- the sink is there only if some rest is not empty; it comes last
   abbrev pub has_sink : Bool
-  has_sink = any (λ p. is_some (rest p)) order
+  has_sink = list_any (λ p. is_some (rest p)) order
 
   abbrev pub sink : ℕ
   sink = length order
@@ -82,7 +73,7 @@ module _ {E G : Type 0} (alg : Model E G) (M : Machine G) where
 
   -- every rest has room at every stage, and so have the moves
   abbrev pub check_fits : Bool
-  check_fits = every (λ p. rest_fits alg (alg.whole ∷ []) (live p)) order && nat_le (length checked.moves) most_moves
+  check_fits = list_all (λ p. rest_fits alg (alg.whole ∷ []) (live p)) order && nat_le (length checked.moves) most_moves
 
 -- N is complete and deterministic, accepts what M accepts, and has no state that no day reaches
 pub record CheckMeaning {E G : Type 0} (alg : Model E G) (M N : Machine G) : Type 0 where

@@ -1,7 +1,7 @@
 -- When checking a clause and joining one to the rule refuse, the sizes of buffers aside.
 use Rattle.std.specs.Prelude.{ℕ, Bool, cond, not, ◌||◌, List, [], length, Some, None, Option, nat_lt}
 use Rattle.guards.specs.Algebra.{Model}
-use Rattle.guards.specs.Lists.{any}
+use Rattle.std.specs.List.{list_any}
 use Rattle.automata.specs.Checking.{check_fits}
 use Rattle.automata.specs.Clashes.{lowest_clash}
 use Rattle.automata.specs.Limits.{most_states, most_moves}
@@ -25,7 +25,7 @@ clash_why (Some c) later = Some (told (Clash c.0 c.1 c.2))
 module _ {E G : Type 0} (alg : Model E G) where
   -- a stray move refuses, or else a clash, or else what comes after them does
   abbrev pub fault_why : ℕ → List (Move G) → Option (Told E) → Option (Told E)
-  fault_why states moves later = refuse_if (any (stray states) moves) (tell 8 []) (clash_why (lowest_clash alg moves) later)
+  fault_why states moves later = refuse_if (list_any (stray states) moves) (tell 8 []) (clash_why (lowest_clash alg moves) later)
 
   -- why checking a clause is refused
   abbrev pub machine_why : Machine G → Option (Told E)
@@ -34,5 +34,5 @@ module _ {E G : Type 0} (alg : Model E G) where
   -- why joining the clause N to the rule R is refused
   abbrev pub join_why : Machine G → Machine G → JoinBy → Option (Told E)
   join_why R N way =
-      refuse_if (any (stray R.count) R.moves || any (stray N.count) N.moves) (tell 8 [])
+      refuse_if (list_any (stray R.count) R.moves || list_any (stray N.count) N.moves) (tell 8 [])
       (refuse_if (nat_lt most_states (length (pairs alg R N))) (tell 7 []) (refuse_if (nat_lt most_moves (length (product alg R N way).moves)) (tell 6 []) None))

@@ -1,7 +1,7 @@
 -- What joining a clause to a rule means, and what the definitions that it goes by mean.
 use Rattle.std.specs.Prelude.{◌≡◌, false, ◌↔◌, List}
 use Rattle.guards.specs.Algebra.{Model}
-use Rattle.guards.specs.Lists.{any}
+use Rattle.std.specs.List.{list_any}
 use Rattle.automata.specs.Book.{DayAfter}
 use Rattle.automata.specs.Limits.{most_rounds}
 use Rattle.automata.specs.Machine.{Machine, Day, Accepts, Proper}
@@ -25,6 +25,6 @@ module _ {E G : Type 0} (alg : Model E G) (R N : Machine G) (way : JoinBy) where
 
   pub record JoinLaws : Type 0 where
     -- where no move strays, the list has each pair that is reached from the starts once, and no other
-    pub pairs_of : any (stray R.count) R.moves ≡ false → any (stray N.count) N.moves ≡ false → Searched (pair_targets alg R.moves N.moves) start_pair (pairs alg R N)
+    pub pairs_of : list_any (stray R.count) R.moves ≡ false → list_any (stray N.count) N.moves ≡ false → Searched (pair_targets alg R.moves N.moves) start_pair (pairs alg R N)
     -- the kept states are pairwise separated, and each state is not separated from a kept one at or below it
     pub kept_of : KeptStates (separated_below alg (product alg R N way) most_rounds) (product alg R N way).count (kept (separated_below alg (product alg R N way) most_rounds) (product alg R N way).count)

@@ -3,7 +3,6 @@ pub mod Book
 pub mod Checking
 pub mod Clashes
 pub mod Faults
-pub mod Filled
 pub mod Joining
 pub mod Limits
 pub mod Machine
@@ -16,5 +15,4 @@ pub mod Running
 pub mod Search
 pub mod Sheet
 pub mod Telling
-pub mod Tracking
 pub mod Writing

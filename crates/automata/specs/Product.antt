@@ -7,6 +7,7 @@ use Rattle.automata.specs.Search.{place_of, reached}
 use Rattle.automata.specs.declared.joins.JoinBy.{JoinBy}
 use Rattle.automata.specs.declared.joins.JoinBy.TheVariants.{Both, Either, Except}
 use Rattle.automata.specs.declared.moves.Move.{Move}
+use Rattle.automata.specs.declared.pairs.PairMove.{PairMove}
 use Rattle.automata.specs.declared.pairs.StatePair.{StatePair}
 
 abbrev pub same_pair : StatePair → StatePair → Bool
@@ -20,11 +21,6 @@ abbrev pub chosen : JoinBy → Bool → Bool → Bool
 chosen Both a b = a && b
 chosen Either a b = a || b
 chosen Except a b = a && not b
-
--- a guard, and the pair to which it leads
-pub record PairMove (G : Type 0) : Type 0 where
-  pub guard : G
-  pub to : StatePair
 
 module _ {E G : Type 0} (alg : Model E G) where
   -- the two moves go from the states of the pair, and their meet admits something

@@ -1,7 +1,8 @@
 -- Reduction: from the lowest up a state is kept if it is separated from every kept lower state.
 use Rattle.std.specs.Prelude.{◌≡◌, ℕ, zero, suc, ◌<◌, Bool, true, false, cond, List, [], ◌∷◌, ◌++◌, map, length, filter, nat_eq, slice_index_or}
 use Rattle.guards.specs.Algebra.{Model}
-use Rattle.guards.specs.Lists.{Member, any, every}
+use Rattle.std.specs.List.{list_all, list_any}
+use Rattle.guards.specs.Lists.{Member}
 use Rattle.automata.specs.Limits.{most_rounds}
 use Rattle.automata.specs.Machine.{Machine}
 use Rattle.automata.specs.Rounds.{separated_below}
@@ -12,7 +13,7 @@ module _ (apart : ℕ → ℕ → Bool) where
   -- the kept states below i, in order
   unfoldable pub kept : ℕ → List ℕ
   kept zero = []
-  kept (suc i) = cond (every (λ r. apart r i) (kept i)) (kept i ++ (i ∷ [])) (kept i)
+  kept (suc i) = cond (list_all (λ r. apart r i) (kept i)) (kept i ++ (i ∷ [])) (kept i)
 
   -- the place of the first of the list from which q is not apart
   abbrev pub class_of : List ℕ → ℕ → ℕ
@@ -27,7 +28,7 @@ module _ (apart : ℕ → ℕ → Bool) where
   reduced_to ks M = record {
     count = length ks;
     endings = λ j. slice_index_or (map M.endings ks) j false;
-    moves = map (redirected ks) (filter (λ v. any (λ r. nat_eq r v.from) ks) M.moves);
+    moves = map (redirected ks) (filter (λ v. list_any (λ r. nat_eq r v.from) ks) M.moves);
   }
 
   -- a kept state is apart from every other, and any state is one from which some kept state at or below it is not apart

@@ -1,7 +1,7 @@
 -- Rounds of separation: in which round two states of a machine are separated, on any table.
 use Rattle.std.specs.Prelude.{ℕ, zero, suc, Bool, false, cond, not, ◌&&◌, ◌||◌, List, is_some, Some, None, Option, ◌==◌}
 use Rattle.guards.specs.Algebra.{Model}
-use Rattle.guards.specs.Lists.{any}
+use Rattle.std.specs.List.{list_any}
 use Rattle.automata.specs.Machine.{Machine}
 use Rattle.automata.specs.declared.moves.Move.{Move}
 
@@ -16,7 +16,7 @@ module _ {E G : Type 0} (alg : Model E G) where
 
   -- a move of p and a move of q are like that
   abbrev pub some_fit : List (Move G) → (ℕ → ℕ → Bool) → ℕ → ℕ → Bool
-  some_fit vs R p q = any (λ u. any (fit R p q u) vs) vs
+  some_fit vs R p q = list_any (λ u. list_any (fit R p q u) vs) vs
 
 -- which states are separated in an earlier round, and which in this one
 pub record Round : Type 0 where

@@ -1,15 +1,10 @@
 -- How a machine runs: its next state, the walk along entries, and the machine as an automaton.
-use Rattle.std.specs.Prelude.{ℕ, ◌+◌, Bool, cond, ◌&&◌, ◌||◌, List, [], ◌∷◌, Some, None, Ok, Err, Option, Result, ◌==◌, nat_le}
-use Rattle.std.specs.Option.{unwrap_or}
+use Rattle.std.specs.Prelude.{ℕ, ◌+◌, Bool, ◌&&◌, ◌||◌, List, [], ◌∷◌, None, Some, Ok, Err, Option, Result, ◌==◌, nat_le, find}
+use Rattle.std.specs.Option.{option_map, unwrap_or}
 use Rattle.guards.specs.Algebra.{Model}
 use Rattle.automata.specs.Automaton.{Automaton}
 use Rattle.automata.specs.Machine.{Machine}
 use Rattle.automata.specs.declared.moves.Move.{Move}
-
--- what the function gives of the first element that passes the test
-abbrev pub first_found : {X Y : Type 0} → (X → Bool) → (X → Y) → List X → Option Y
-first_found test get [] = None
-first_found test get (x ∷ xs) = cond (test x) (Some (get x)) (first_found test get xs)
 
 -- on with the state, or the place where there is none
 abbrev pub onward : Option ℕ → ℕ → (ℕ → Result ℕ ℕ) → Result ℕ ℕ
@@ -28,7 +23,7 @@ module _ {E G : Type 0} (alg : Model E G) where
 
   -- where the first such move in table order leads
   abbrev pub next : List (Move G) → ℕ → E → Option ℕ
-  next moves p e = first_found (taken_by p e) (λ v. v.to) moves
+  next moves p e = option_map (λ v. v.to) (find (taken_by p e) moves)
 
   -- a state without a next state stays
   abbrev pub automaton : Machine G → Automaton E

@@ -1,6 +1,7 @@
 -- Breadth-first search over nodes of any kind, and what it finds.
 use Rattle.std.specs.Prelude.{◌≡◌, ℕ, zero, suc, Bool, true, cond, List, [], ◌∷◌, ◌++◌, drop}
-use Rattle.guards.specs.Lists.{Member, any}
+use Rattle.std.specs.List.{list_any}
+use Rattle.guards.specs.Lists.{Member}
 
 -- the test tells whether two nodes are the same
 pub record Tells {X : Type 0} (same : X → X → Bool) : Type 0 where
@@ -15,7 +16,7 @@ module _ {X : Type 0} (same : X → X → Bool) where
 
   -- one more at the end, if it is new
   abbrev pub add : List X → X → List X
-  add found y = cond (any (same y) found) found (found ++ (y ∷ []))
+  add found y = cond (list_any (same y) found) found (found ++ (y ∷ []))
 
   abbrev pub add_all : List X → List X → List X
   add_all found [] = found

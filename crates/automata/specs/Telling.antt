@@ -7,12 +7,7 @@ use Rattle.automata.specs.Limits.{most_rounds}
 use Rattle.automata.specs.Machine.{Machine, Day, Accepts}
 use Rattle.automata.specs.Rounds.{separated, round_of}
 use Rattle.automata.specs.declared.moves.Move.{Move}
-
--- an entry, and the two states to which it leads
-pub record WordStep (E : Type 0) : Type 0 where
-  pub sample : E
-  pub left : ℕ
-  pub right : ℕ
+use Rattle.automata.specs.declared.telling.WordStep.{WordStep}
 
 module _ {E G : Type 0} (alg : Model E G) where
   -- the sample of the meet of two moves, from p and from q, that lead to states of which R holds

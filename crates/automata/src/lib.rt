@@ -1,4 +1,4 @@
-// What the theory of machines and its code share: moves, pairs of states, the ways of joining, refusals and limits.
+// What the theory of machines and its code share: moves, pairs of states, the ways of joining, refusals, steps of words and limits.
 #![tactic(auto)]
 
 pub mod joins;
@@ -6,3 +6,4 @@ pub mod limits;
 pub mod moves;
 pub mod pairs;
 pub mod refusals;
+pub mod telling;

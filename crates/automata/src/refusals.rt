@@ -1,6 +1,7 @@
 // Why a call is refused: one enum for all calls, so that a refusal means the same whoever reports it.
 ghost use Rattle.std.specs.Prelude.{◌≡◌};
 ghost use Rattle.automata.specs.Refusals.{told};
+ghost use Rattle.automata.specs.declared.refusals.Refusal.TheVariants.{BadNumbers};
 
 use guards::malformed::Malformed;
 
@@ -59,8 +60,31 @@ impl<E> Refusal<E> {
     }
 }
 
+impl<E> From<Malformed> for Refusal<E> {
+    ghost from_gives = { λ why refusal. refusal ≡ BadNumbers why };
+
+    fn from(why: Malformed) -> Refusal<E> {
+        Refusal::BadNumbers(why)
+    }
+}
+
 // A refused call: what was moved into it, handed back, and why.
 pub struct Refused<T, E> {
     pub value: T,
     pub why: Refusal<E>,
+}
+
+impl<T, E> Refused<T, E> {
+    // The refusal of a call that was moved what holds the value.
+    pub fn map<U, F: FnOnce(T) -> U>(self, f: F) -> Refused<U, E>
+        requires { F.pre f self.value }
+        ensures why { result.why ≡ self.why }
+        ensures value { F.post f self.value result.value }
+    {
+        let Refused { value, why } = self;
+        Refused {
+            value: f(value),
+            why,
+        }
+    }
 }

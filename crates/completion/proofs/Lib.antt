@@ -1,4 +1,9 @@
-pub mod CheckCalls
-pub mod EndingBits
-pub mod Placing
-pub mod RewrittenTables
+pub mod CheckedTables
+pub mod FirstPassing
+pub mod Narrowing
+pub mod PlacedLines
+pub mod PlacedStates
+pub mod ReachedStates
+pub mod SinkMoves
+pub mod Stages
+pub mod Targets

@@ -1,4 +1,3 @@
-pub mod Endings
+pub mod Completing
 pub mod Placing
-pub mod Rewriting
-pub mod Values
+pub mod Rests

@@ -2,12 +2,10 @@
 // ask none, stand in the crates above.
 #![tactic(auto)]
 
-pub mod buffers;
 pub mod clashes;
 pub mod completing;
-pub mod counts;
-pub mod endings;
-pub mod reaching;
-pub mod rests;
-pub mod rewriting;
-pub mod strays;
+mod live_moves;
+mod placing;
+mod reached;
+mod reaching;
+mod rests;

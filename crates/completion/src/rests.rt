@@ -1,106 +1,92 @@
 // Rest lists: what is left of guards without others.
-ghost use Rattle.std.specs.Prelude.{◌≡◌, ◌≤◌, ◌++◌, length, take, filter};
-ghost use Rattle.automata.specs.Checking.{RestFilled, is_live, narrowed, without};
-ghost use Rattle.automata.specs.Filled.{Filled};
+ghost use Rattle.std.specs.Prelude.{◌≡◌, ◌≤◌, [], length};
+ghost use Rattle.automata.specs.Checking.{live, without};
 ghost use Rattle.automata.specs.Limits.{most_parts};
+ghost use Rattle.completion.specs.Rests.{Narrows, Leaves};
+ghost use Rattle.tables.specs.Machines.{machine_of};
 
-use crate::buffers::{copy_front, push};
-use automata::moves::Move;
-use guards::algebra::Algebra;
+use crate::reaching::ClauseGraph;
+use automata::limits::PARTS;
+use guards::algebra::{Algebra, Parts};
+use std::marker::Model;
+use std::mem;
+use tables::lists::{Full, SliceVec};
 
-// Puts the parts of `a` without `b` behind the first `count` guards; None where they have no room.
+// A rest list, for at most so many guards. Clauses see it as the list of its guards.
+#[derive(Drop)]
+pub struct Rest<'a, A: Algebra> {
+    guards: SliceVec<'a, A::Guard>,
+    // Where the next list grows.
+    other: SliceVec<'a, A::Guard>,
+}
+
+impl<'a, A: Algebra> Model for Rest<'a, A> {
+    ghost use Rattle.std.specs.Prelude.{◌≡◌, ◌≤◌, List, length};
+    ghost use Rattle.automata.specs.Limits.{most_parts};
+
+    ghost Value = { List A.Guard };
+
+    ghost view = { λ r. r.guards.items };
+
+    ghost invariant = { λ r. (r.guards.room ≡ most_parts) × (r.other.room ≡ most_parts) };
+}
+
+// Puts the parts of each guard without `b` in place of what the list holds, in order.
 fn put_parts<A: Algebra>(
     alg: &A,
-    a: A::Guard,
+    guards: &[A::Guard],
     b: A::Guard,
-    out: &mut [A::Guard],
-    count: usize,
-) -> Option<usize>
-    requires { count ≤ length out.old }
-    ensures { Filled (take count out.old ++ (A.model alg.now).parts a b) out.new result }
+    list: &mut SliceVec<A::Guard>,
+) -> Result<(), Full>
+    requires { list.old.room ≡ most_parts }
+    ensures narrows { Narrows (A.model alg.now) b guards.now list.new.items result }
+    ensures room { list.new.room ≡ most_parts }
 {
-    let mut filled = count;
-    let mut number = 0;
-    while let Some(part) = alg.rest(a, b, number) {
-        filled = push(out, filled, part)?;
-        number += 1;
+    list.clear();
+    for a in guards {
+        list.extend(Parts::new(alg, *a, b))?;
     }
-    Some(filled)
+    Ok(())
 }
 
-// Puts the parts of each guard of the list without `b` into `out`, in order; None where they have no room.
-fn put_without<A: Algebra>(
-    alg: &A,
-    list: &[A::Guard],
-    b: A::Guard,
-    out: &mut [A::Guard],
-) -> Option<usize>
-    ensures { Filled (without (A.model alg.now) b list.now) out.new result }
-{
-    let mut filled = 0;
-    for a in list {
-        filled = put_parts(alg, *a, b, out, filled)?;
+impl<'a, A: Algebra> Rest<'a, A> {
+    // No guards; the buffers have their least sizes.
+    pub fn new(parts: &'a mut [A::Guard], others: &'a mut [A::Guard]) -> Rest<'a, A>
+        requires parts { most_parts ≤ length parts.old }
+        requires others { most_parts ≤ length others.old }
+        ensures { result ≡ [] }
+    {
+        Rest {
+            guards: SliceVec::with_room(parts, PARTS),
+            other: SliceVec::with_room(others, PARTS),
+        }
     }
-    Some(filled)
-}
 
-// Replaces the first `count` guards of the list by their parts without `b`, by way of the other list; None where they have no room.
-fn narrow<A: Algebra>(
-    alg: &A,
-    list: &mut [A::Guard],
-    count: usize,
-    b: A::Guard,
-    other: &mut [A::Guard],
-) -> Option<usize>
-    requires { (count ≤ length list.old) × (length other.old ≡ length list.old) }
-    ensures { Filled (without (A.model alg.now) b (take count list.old)) list.new result }
-{
-    let filled = put_without(alg, &list[0..count], b, other)?;
-    copy_front(other, list, filled);
-    Some(filled)
-}
-
-// Whether the move goes from the state and admits something.
-pub fn is_live<A: Algebra>(alg: &A, line: &Move<A::Guard>, state: usize) -> bool
-    ensures { result ≡ is_live (A.model alg.now) state line.now }
-{
-    line.from == state && alg.sample(line.guard).is_some()
-}
-
-// Narrows the list by the move, if that is a live move of the state.
-fn narrow_by<A: Algebra>(
-    alg: &A,
-    line: &Move<A::Guard>,
-    state: usize,
-    list: &mut [A::Guard],
-    count: usize,
-    other: &mut [A::Guard],
-) -> Option<usize>
-    requires { (count ≤ length list.old) × (length other.old ≡ length list.old) }
-    ensures { Filled (narrowed (A.model alg.now) state line.now (take count list.old)) list.new result }
-{
-    if is_live(alg, line, state) {
-        narrow(alg, list, count, line.guard, other)
-    } else {
-        Some(count)
+    // The guards, in order.
+    pub fn guards(&self) -> &[A::Guard]
+        ensures { result.now ≡ self.now }
+    {
+        self.guards.as_slice()
     }
-}
 
-// Puts the rest of a state into the list: what its live moves leave of the whole guard, each in turn; None where the list has
-// no room at some stage.
-pub fn put_rest<A: Algebra>(
-    alg: &A,
-    moves: &[Move<A::Guard>],
-    state: usize,
-    list: &mut [A::Guard],
-    other: &mut [A::Guard],
-) -> Option<usize>
-    requires { (length list.old ≡ most_parts) × (length other.old ≡ most_parts) }
-    ensures { RestFilled (A.model alg.now) (filter (is_live (A.model alg.now) state) moves.now) list.new result }
-{
-    let mut filled = push(list, 0, alg.whole())?;
-    for line in moves {
-        filled = narrow_by(alg, line, state, list, filled, other)?;
+    // Replaces each guard by its parts without `b`, in order.
+    fn narrow(&mut self, alg: &A, b: A::Guard) -> Result<(), Full>
+        ensures { Narrows (A.model alg.now) b self.old self.new result }
+    {
+        put_parts(alg, self.guards.as_slice(), b, &mut self.other)?;
+        mem::swap(&mut self.guards, &mut self.other);
+        Ok(())
     }
-    Some(filled)
+
+    // Makes it what the live moves of the state leave of the whole guard, each in turn.
+    pub fn leave(&mut self, graph: &ClauseGraph<A>, state: usize) -> Result<(), Full>
+        ensures { let alg = A.model graph.now.alg.now in Leaves alg (live alg (machine_of graph.now.clause.now) state) self.new result }
+    {
+        self.guards.clear();
+        self.guards.push(graph.alg.whole())?;
+        for line in graph.live_moves(state) {
+            self.narrow(graph.alg, line.guard)?;
+        }
+        Ok(())
+    }
 }

@@ -1,3 +1,3 @@
 pub mod FlagParts
 pub mod PairParts
-pub mod Places
+pub mod NumberedParts

@@ -1,5 +1,5 @@
--- The model of an algebra of guards, and the laws that it keeps.
-use Rattle.std.specs.Prelude.{◌≡◌, ℕ, Bool, true, false, cond, not, ◌&&◌, List, Some, None, count_by, Option}
+-- The model of an algebra of guards, the laws that it keeps, and which parts have a number.
+use Rattle.std.specs.Prelude.{◌≡◌, ℕ, Bool, true, false, cond, not, ◌&&◌, ◌^◌, List, [], take, drop, Some, None, count_by, Option}
 use Rattle.std.specs.List.{slice_get}
 
 -- entries of the kind E, guards of the kind G
@@ -31,3 +31,12 @@ pub record Laws {E G : Type 0} (m : Model E G) : Type 0 where
   pub parts_once : (a b : G) (e : E) → count_by (λ p. m.admits p e) (m.parts a b) ≡ cond (m.admits a e && not (m.admits b e)) 1 0
   -- each part admits something
   pub parts_some : (a b : G) (k : ℕ) (p : G) → slice_get (m.parts a b) k ≡ Some p → (e : E) × (m.admits p e ≡ true)
+
+-- the parts that have a number: a number is a usize
+unfoldable pub numbered : {G : Type 0} → List G → List G
+numbered ps = take (2 ^ 64) ps
+
+-- the list from that place on; none without a place
+abbrev pub left_from : {G : Type 0} → List G → Option ℕ → List G
+left_from ps None = []
+left_from ps (Some n) = drop n ps

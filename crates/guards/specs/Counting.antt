@@ -29,7 +29,7 @@ abbrev pub Each : {X : Type 0} → (X → Type 0) → List X → Type 0
 Each {X} P xs = (k : ℕ) (x : X) → slice_get xs k ≡ Some x → P x
 
 pub each_none : {X : Type 0} (P : X → Type 0) → Each P []
-each_none P k x h = let z : ◌≡◌ {A = ℕ} 0 1 = cc in absurd (omega arith)
+each_none P k x h = absurd cc
 
 pub each_cons : {X : Type 0} (P : X → Type 0) (y : X) (ys : List X) → P y → Each P ys → Each P (y ∷ ys)
 each_cons P y ys h hs zero x e = let s : y ≡ x = cc in rw s at h

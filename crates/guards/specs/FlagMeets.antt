@@ -7,7 +7,7 @@ use Rattle.std.proofs.lemmas.Nat.{or_lt}
 use Rattle.std.proofs.lemmas.Bool.{and_from, le-leb, both_ways}
 use Rattle.guards.specs.Bits.{has}
 use Rattle.guards.specs.Flags.{no_flags, weights, is_flags, is_pattern, agrees, flags_admit, compatible, joined, flags_meet}
-use Rattle.guards.specs.Lists.{every}
+use Rattle.std.specs.List.{list_all}
 use Rattle.guards.specs.declared.flags.FlagRow.{FlagRow}
 use Rattle.guards.specs.BitsLemmas.{has_or}
 use Rattle.guards.specs.FlagBits.{every_same, all_every, every_and, at_weights}
@@ -15,7 +15,7 @@ use Rattle.guards.specs.FlagTests.{made, make}
 
 -- what a row admits if its numbers make a guard
 abbrev pub matches : FlagRow → ℕ → Bool
-matches g e = is_flags e && every (agrees g e) weights
+matches g e = is_flags e && list_all (agrees g e) weights
 
 pub admits_made : (g : FlagRow) (e : ℕ) {t : Bool} → is_pattern g ≡ t → flags_admit g e ≡ (t && matches g e)
 admits_made g e h = ap (λ t. t && matches g e) h
@@ -59,7 +59,7 @@ module _ (a b : FlagRow) (ha : is_pattern a ≡ true) (hb : is_pattern b ≡ tru
       go false false w d h k = k
 
   -- the values agree and the entry agrees with both joined, where it agrees with each
-  joined_agrees : (e : ℕ) → (every (compatible a b) weights && every (agrees (joined a b) e) weights) ≡ (every (agrees a e) weights && every (agrees b e) weights)
+  joined_agrees : (e : ℕ) → (list_all (compatible a b) weights && list_all (agrees (joined a b) e) weights) ≡ (list_all (agrees a e) weights && list_all (agrees b e) weights)
   joined_agrees e =
       sym (every_and (compatible a b) (agrees (joined a b) e) weights)
       ∙ every_same (λ w. compatible a b w && agrees (joined a b) e w) (λ w. agrees a e w && agrees b e w) weights
@@ -91,11 +91,11 @@ module _ (a b : FlagRow) (ha : is_pattern a ≡ true) (hb : is_pattern b ≡ tru
           ap₂ (λ c v. compatible a b (2 ^ k) && (not c || beq (has e (2 ^ k)) v)) (has_or k a.care b.care) (has_or k a.value b.value)
           ∙ go (has a.care (2 ^ k)) (has a.value (2 ^ k)) (has b.care (2 ^ k)) (has b.value (2 ^ k)) (has e (2 ^ k)) ((made a ha).inside k) ((made b hb).inside k)
 
-  joined_matches : (e : ℕ) → (every (compatible a b) weights && matches (joined a b) e) ≡ (matches a e && matches b e)
+  joined_matches : (e : ℕ) → (list_all (compatible a b) weights && matches (joined a b) e) ≡ (matches a e && matches b e)
   joined_matches e =
-      swap (every (compatible a b) weights) (is_flags e) (every (agrees (joined a b) e) weights)
+      swap (list_all (compatible a b) weights) (is_flags e) (list_all (agrees (joined a b) e) weights)
       ∙ ap (λ t. is_flags e && t) (joined_agrees e)
-      ∙ share (is_flags e) (every (agrees a e) weights) (every (agrees b e) weights)
+      ∙ share (is_flags e) (list_all (agrees a e) weights) (list_all (agrees b e) weights)
     where
       swap : (p l q : Bool) → (p && (l && q)) ≡ (l && (p && q))
       swap true l q = refl
@@ -103,9 +103,9 @@ module _ (a b : FlagRow) (ha : is_pattern a ≡ true) (hb : is_pattern b ≡ tru
       swap false false q = refl
 
 pub meet_admits : (a b : FlagRow) (e : ℕ) → flags_admit (flags_meet a b) e ≡ (flags_admit a e && flags_admit b e)
-meet_admits a b e = go (is_pattern a) (is_pattern b) (every (compatible a b) weights) refl refl refl
+meet_admits a b e = go (is_pattern a) (is_pattern b) (list_all (compatible a b) weights) refl refl refl
   where
-    go : (s t u : Bool) → is_pattern a ≡ s → is_pattern b ≡ t → every (compatible a b) weights ≡ u
+    go : (s t u : Bool) → is_pattern a ≡ s → is_pattern b ≡ t → list_all (compatible a b) weights ≡ u
         → flags_admit (cond (s && (t && u)) (joined a b) no_flags) e ≡ ((s && matches a e) && (t && matches b e))
     go true true true ha hb c =
         admits_made (joined a b) e (joined_made a b ha hb) ∙ ap (λ t. t && matches (joined a b) e) (sym c) ∙ joined_matches a b ha hb e

@@ -1,13 +1,13 @@
 -- Flags: which numbers are entries and guards, what each guard admits, and the model of the algebra.
-use Rattle.std.specs.Prelude.{◌≡◌, ℕ, Bool, true, false, cond, not, ◌&&◌, ◌||◌, List, [], ◌∷◌, Some, None, Option, bit_or, nat_le}
+use Rattle.std.specs.Prelude.{◌≡◌, ℕ, Bool, true, false, cond, not, ◌&&◌, ◌||◌, List, [], ◌∷◌, Some, None, Option, Ok, Err, Result, bit_or, nat_le}
 use Rattle.std.specs.Bool.{beq}
 use Rattle.guards.specs.Algebra.{Model}
 use Rattle.guards.specs.Bits.{has}
-use Rattle.guards.specs.Lists.{every}
+use Rattle.std.specs.List.{list_all}
 use Rattle.guards.specs.declared.flags.FlagRow.{FlagRow}
 use Rattle.guards.specs.declared.flags.FlagPattern.{FlagPattern}
-use Rattle.guards.specs.declared.flags.FlagGuard.{FlagGuard}
-use Rattle.guards.specs.declared.flags.FlagGuard.TheVariants.{Empty, Pattern}
+use Rattle.guards.specs.declared.malformed.Malformed.{Malformed}
+use Rattle.guards.specs.declared.malformed.Malformed.TheVariants.{Flags}
 
 abbrev pub flags : ℕ → ℕ → FlagRow
 flags care value = record { care = care; value = value }
@@ -29,20 +29,21 @@ within g w = not (has g.value w) || has g.care w
 
 -- the numbers of the row make a guard
 abbrev pub is_pattern : FlagRow → Bool
-is_pattern g = nat_le g.care 31 && (nat_le g.value 31 && every (within g) weights)
+is_pattern g = nat_le g.care 31 && (nat_le g.value 31 && list_all (within g) weights)
 
--- the row of a guard
+-- the row of a guard that admits something
 abbrev pub pattern_row : FlagPattern → FlagRow
 pattern_row g = flags g.care g.value
 
-abbrev pub flag_row : FlagGuard → FlagRow
-flag_row Empty = no_flags
-flag_row (Pattern g) = pattern_row g
+-- the row of a guard, of which None is the empty one
+abbrev pub flag_row : Option FlagPattern → FlagRow
+flag_row None = no_flags
+flag_row (Some g) = pattern_row g
 
--- the guard that a row reads as
-abbrev pub Reads : FlagRow → FlagGuard → Type 0
-Reads row Empty = is_pattern row ≡ false
-Reads row (Pattern g) = (is_pattern row ≡ true) × (pattern_row g ≡ row)
+-- the guard of a row's numbers
+abbrev pub Makes : FlagRow → Result FlagPattern Malformed → Type 0
+Makes row (Ok g) = (is_pattern row ≡ true) × (pattern_row g ≡ row)
+Makes row (Err why) = (is_pattern row ≡ false) × (why ≡ Flags)
 
 -- at that bit the entry is as the value is, unless the bit is outside care
 abbrev pub agrees : FlagRow → ℕ → ℕ → Bool
@@ -50,7 +51,7 @@ agrees g e w = not (has g.care w) || beq (has e w) (has g.value w)
 
 -- the meaning of a row: the entries that agree with the value on every care bit, or none where the numbers make no guard
 abbrev pub flags_admit : FlagRow → ℕ → Bool
-flags_admit g e = is_pattern g && (is_flags e && every (agrees g e) weights)
+flags_admit g e = is_pattern g && (is_flags e && list_all (agrees g e) weights)
 
 abbrev pub whole_flags : FlagRow
 whole_flags = flags 0 0
@@ -61,7 +62,7 @@ compatible a b w = not (has a.care w && has b.care w) || beq (has a.value w) (ha
 
 -- neither is empty, and they disagree on no shared care bit
 abbrev pub flags_overlap : FlagRow → FlagRow → Bool
-flags_overlap a b = is_pattern a && (is_pattern b && every (compatible a b) weights)
+flags_overlap a b = is_pattern a && (is_pattern b && list_all (compatible a b) weights)
 
 -- the cares and the values of both
 abbrev pub joined : FlagRow → FlagRow → FlagRow

@@ -1,20 +1,10 @@
 -- Words for lists.
-use Rattle.std.specs.Prelude.{◌≡◌, ℕ, ◌+◌, Bool, true, false, ◌&&◌, ◌||◌, ◌⊎◌, List, [], ◌∷◌, Some, None, Option}
+use Rattle.std.specs.Prelude.{◌≡◌, ℕ, ◌+◌, Bool, true, false, ◌⊎◌, List, [], ◌∷◌, Some, None, Option}
 
 -- x is one of the list
 abbrev pub Member : {X : Type 0} → X → List X → Type 0
 Member x [] = ⊥
 Member x (y ∷ ys) = (y ≡ x) ⊎ Member x ys
-
--- one of the list passes the test
-abbrev pub any : {X : Type 0} → (X → Bool) → List X → Bool
-any test [] = false
-any test (x ∷ xs) = test x || any test xs
-
--- each of the list passes the test
-abbrev pub every : {X : Type 0} → (X → Bool) → List X → Bool
-every test [] = true
-every test (x ∷ xs) = test x && every test xs
 
 -- the first, or else the second
 abbrev pub or_else : {Y : Type 0} → Option Y → Option Y → Option Y

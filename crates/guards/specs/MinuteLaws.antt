@@ -1,9 +1,11 @@
 -- The algebra of minutes keeps the laws.
 use Rattle.std.specs.Prelude.{◌≡◌, ℕ, ◌+◌, ◌-◌, min, max, Bool, true, false, cond, not, ◌&&◌, [], ◌∷◌, ◌++◌, Some, None, count_by, nat_lt, refl}
-use Rattle.std.proofs.Common.{ap₂, subst, ◌∙◌, arith}
+use Rattle.std.proofs.Common.{ap, ap₂, subst, ◌∙◌, arith}
+use Rattle.std.proofs.lemmas.Bool.{and_left, and_right}
 use Rattle.std.proofs.lemmas.Bool.Decides.{nat_tests}
 use Rattle.guards.specs.Algebra.{Laws}
-use Rattle.guards.specs.Minutes.{minutes, is_range, minutes_admit, minutes_sample, below, above, minutes_parts, minutes_model}
+use Rattle.guards.specs.Rows.{ReadAsEmpty}
+use Rattle.guards.specs.Minutes.{minutes, no_minutes, overlap, is_range, minutes_admit, minutes_sample, below, above, minutes_parts, minutes_model}
 use Rattle.guards.specs.declared.minutes.MinuteRow.{MinuteRow}
 use Rattle.guards.specs.Counting.{count_append, count_if, Each, each_none, each_cons, each_append}
 
@@ -22,7 +24,7 @@ sample_none : (g : MinuteRow) → minutes_sample g ≡ None → (e : ℕ) → mi
 sample_none g h e = go (is_range g) refl h
   where
     go : (t : Bool) → is_range g ≡ t → cond t (Some g.first) None ≡ None → minutes_admit g e ≡ false
-    go true r h = let z : ◌≡◌ {A = ℕ} 0 1 = cc in absurd (omega arith)
+    go true r h = absurd cc
     go false r h = none_admitted g e r
 
 sample_some : (g : MinuteRow) (e : ℕ) → minutes_sample g ≡ Some e → minutes_admit g e ≡ true
@@ -30,7 +32,7 @@ sample_some g e h = go (is_range g) refl h
   where
     go : (t : Bool) → is_range g ≡ t → cond t (Some g.first) None ≡ Some e → minutes_admit g e ≡ true
     go true r h = let s : g.first ≡ e = cc in subst (λ x. minutes_admit g x ≡ true) s (first_admitted g r)
-    go false r h = let z : ◌≡◌ {A = ℕ} 0 1 = cc in absurd (omega arith)
+    go false r h = absurd cc
 
 parts_once : (a b : MinuteRow) (e : ℕ) → count_by (λ p. minutes_admit p e) (minutes_parts a b) ≡ cond (minutes_admit a e && not (minutes_admit b e)) 1 0
 parts_once a b e = go (is_range a) (is_range b) refl refl
@@ -72,4 +74,16 @@ minute_laws = record {
   sample_some = sample_some;
   parts_once = parts_once;
   parts_some = parts_some;
+}
+
+pub minutes_read_as_empty : (row : MinuteRow) → is_range row ≡ false → ReadAsEmpty minutes_model is_range no_minutes row
+minutes_read_as_empty row h = record {
+  admits = λ e. none_admitted row e h;
+  meet_left = λ b.
+      ap (λ t. cond t (overlap row b) no_minutes) (and_left (is_range row && is_range b) (is_range (overlap row b)) (and_left (is_range row) (is_range b) h));
+  meet_right = λ a.
+      ap (λ t. cond t (overlap a row) no_minutes) (and_left (is_range a && is_range row) (is_range (overlap a row)) (and_right (is_range a) (is_range row) h));
+  sample = ap (λ t. cond t (Some row.first) None) h;
+  parts_of = λ b. ap (λ t. cond t (cond (is_range b) (below row b ++ above row b) (row ∷ [])) []) h;
+  parts_without = λ a k. ap₂ (λ s t. cond s (cond t (below a row ++ above a row) (a ∷ [])) []) k h;
 }

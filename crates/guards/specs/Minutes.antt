@@ -1,10 +1,10 @@
 -- Minutes: which numbers are entries and guards, what each guard admits, and the model of the algebra.
-use Rattle.std.specs.Prelude.{◌≡◌, ℕ, ◌+◌, ◌-◌, min, max, Bool, true, false, cond, ◌&&◌, List, [], ◌∷◌, ◌++◌, Some, None, Option, nat_le, nat_lt}
+use Rattle.std.specs.Prelude.{◌≡◌, ℕ, ◌+◌, ◌-◌, min, max, Bool, true, false, cond, ◌&&◌, List, [], ◌∷◌, ◌++◌, Some, None, Option, Ok, Err, Result, nat_le, nat_lt}
 use Rattle.guards.specs.Algebra.{Model}
 use Rattle.guards.specs.declared.minutes.MinuteRow.{MinuteRow}
 use Rattle.guards.specs.declared.minutes.MinuteRange.{MinuteRange}
-use Rattle.guards.specs.declared.minutes.MinuteGuard.{MinuteGuard}
-use Rattle.guards.specs.declared.minutes.MinuteGuard.TheVariants.{Empty, Range}
+use Rattle.guards.specs.declared.malformed.Malformed.{Malformed}
+use Rattle.guards.specs.declared.malformed.Malformed.TheVariants.{Minutes}
 
 abbrev pub minutes : ℕ → ℕ → MinuteRow
 minutes first last = record { first = first; last = last }
@@ -20,18 +20,19 @@ is_minute e = nat_le e 1439
 abbrev pub is_range : MinuteRow → Bool
 is_range g = nat_le g.first g.last && nat_le g.last 1439
 
--- the row of a guard
+-- the row of a guard that admits something
 abbrev pub range_row : MinuteRange → MinuteRow
 range_row g = minutes g.first g.last
 
-abbrev pub minute_row : MinuteGuard → MinuteRow
-minute_row Empty = no_minutes
-minute_row (Range g) = range_row g
+-- the row of a guard, of which None is the empty one
+abbrev pub minute_row : Option MinuteRange → MinuteRow
+minute_row None = no_minutes
+minute_row (Some g) = range_row g
 
--- the guard that a row reads as
-abbrev pub Reads : MinuteRow → MinuteGuard → Type 0
-Reads row Empty = is_range row ≡ false
-Reads row (Range g) = (is_range row ≡ true) × (range_row g ≡ row)
+-- the guard of a row's numbers
+abbrev pub Makes : MinuteRow → Result MinuteRange Malformed → Type 0
+Makes row (Ok g) = (is_range row ≡ true) × (range_row g ≡ row)
+Makes row (Err why) = (is_range row ≡ false) × (why ≡ Minutes)
 
 -- the meaning of a row: the minutes from first to last, or none where the numbers make no guard
 abbrev pub minutes_admit : MinuteRow → ℕ → Bool

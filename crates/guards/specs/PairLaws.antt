@@ -1,8 +1,9 @@
 -- The pair of two algebras that keep the laws keeps them.
-use Rattle.std.specs.Prelude.{◌≡◌, ℕ, ◌+◌, Bool, true, false, cond, not, ◌&&◌, [], ◌++◌, map, is_some, Some, None, count_by, Option, refl}
-use Rattle.std.proofs.Common.{sym, ap, ap₂, ◌∙◌, arith}
+use Rattle.std.specs.Prelude.{◌≡◌, ◌+◌, Bool, true, false, cond, not, ◌&&◌, [], ◌++◌, map, is_some, Some, None, count_by, Option, refl}
+use Rattle.std.proofs.Common.{sym, ap, ap₂, ◌∙◌}
 use Rattle.std.proofs.Math.Bool.{and_comm}
 use Rattle.std.proofs.lemmas.Bool.{and_parts, and_from, and_left, and_right}
+use Rattle.guards.specs.Tests.{and_swap}
 use Rattle.guards.specs.Algebra.{Model, Laws}
 use Rattle.guards.specs.Pair.{both, both_some, pair_admit, first_parts, second_parts, pair_parts, pair_model}
 use Rattle.guards.specs.declared.pair.Both.{Both}
@@ -15,20 +16,14 @@ module _ {E G : Type 0} {m : Model E G} (laws : Laws m) (g : G) where
     where
       go : (o : Option E) → m.sample g ≡ o → is_some o ≡ false → (e : E) → m.admits g e ≡ false
       go None s h = laws.sample_none g s
-      go (Some e) s h = let z : ◌≡◌ {A = ℕ} 0 1 = cc in absurd (omega arith)
+      go (Some e) s h = absurd cc
 
   pub live : is_some (m.sample g) ≡ true → (e : E) × (m.admits g e ≡ true)
   live h = go (m.sample g) refl h
     where
       go : (o : Option E) → m.sample g ≡ o → is_some o ≡ true → (e : E) × (m.admits g e ≡ true)
-      go None s h = let z : ◌≡◌ {A = ℕ} 0 1 = cc in absurd (omega arith)
+      go None s h = absurd cc
       go (Some e) s h = (e, laws.sample_some g e s)
-
-swap : (x y u v : Bool) → ((x && y) && (u && v)) ≡ ((x && u) && (y && v))
-swap true true u v = refl
-swap true false true v = refl
-swap true false false v = refl
-swap false y u v = refl
 
 -- x and u: a admits the entry on each side; y and v: b does. The first run counts where u, the second where x and y
 sum_runs : (x y u v : Bool) → cond u (cond (x && not y) 1 0) 0 + cond (x && y) (cond (u && not v) 1 0) 0 ≡ cond ((x && u) && not (y && v)) 1 0
@@ -50,14 +45,14 @@ module _ {E₁ G₁ E₂ G₂ : Type 0} {m : Model E₁ G₁} {n : Model E₂ G�
       go : (o : Option E₁) (p : Option E₂) → m.sample g.first ≡ o → n.sample g.second ≡ p → both_some o p ≡ None → pair_admit m n g e ≡ false
       go None p s t h = and_left _ _ (l.sample_none g.first s e.first)
       go (Some x) None s t h = and_right _ _ (r.sample_none g.second t e.second)
-      go (Some x) (Some y) s t h = let z : ◌≡◌ {A = ℕ} 0 1 = cc in absurd (omega arith)
+      go (Some x) (Some y) s t h = absurd cc
 
   sample_some : (g : Both G₁ G₂) (e : Both E₁ E₂) → both_some (m.sample g.first) (n.sample g.second) ≡ Some e → pair_admit m n g e ≡ true
   sample_some g e h = go (m.sample g.first) (n.sample g.second) refl refl h
     where
       go : (o : Option E₁) (p : Option E₂) → m.sample g.first ≡ o → n.sample g.second ≡ p → both_some o p ≡ Some e → pair_admit m n g e ≡ true
-      go None p s t h = let z : ◌≡◌ {A = ℕ} 0 1 = cc in absurd (omega arith)
-      go (Some x) None s t h = let z : ◌≡◌ {A = ℕ} 0 1 = cc in absurd (omega arith)
+      go None p s t h = absurd cc
+      go (Some x) None s t h = absurd cc
       go (Some x) (Some y) s t h =
           let same : both x y ≡ e = cc in
           and_from _ _ (l.sample_some g.first e.first (s ∙ ap (λ d. Some d.first) same)) (r.sample_some g.second e.second (t ∙ ap (λ d. Some d.second) same))
@@ -129,7 +124,7 @@ module _ {E₁ G₁ E₂ G₂ : Type 0} {m : Model E₁ G₁} {n : Model E₂ G�
     inhabited = (both l.inhabited.0 r.inhabited.0, and_from _ _ l.inhabited.1 r.inhabited.1);
     whole_admits = λ e. ap₂ ◌&&◌ (l.whole_admits e.first) (r.whole_admits e.second);
     inside = λ g e h. let p = and_parts (m.admits g.first e.first) (n.admits g.second e.second) h in and_from _ _ (l.inside g.first e.first p.0) (r.inside g.second e.second p.1);
-    meet_admits = λ a b e. ap₂ ◌&&◌ (l.meet_admits a.first b.first e.first) (r.meet_admits a.second b.second e.second) ∙ swap (m.admits a.first e.first) (m.admits b.first e.first) (n.admits a.second e.second) (n.admits b.second e.second);
+    meet_admits = λ a b e. ap₂ ◌&&◌ (l.meet_admits a.first b.first e.first) (r.meet_admits a.second b.second e.second) ∙ and_swap (m.admits a.first e.first) (m.admits b.first e.first) (n.admits a.second e.second) (n.admits b.second e.second);
     sample_none = sample_none;
     sample_some = sample_some;
     parts_once = parts_once;

@@ -2,9 +2,9 @@
 ghost use Rattle.std.specs.Prelude.{◌≡◌, true, IfOk};
 ghost use Rattle.guards.specs.Activity.{entry_of, activity_model};
 
-use crate::flags::{FlagEntry, FlagRow, Flags};
+use crate::flags::{FLAGS, FlagEntry, FlagRow, Flags};
 use crate::malformed::Malformed;
-use crate::minutes::{MinuteEntry, MinuteRow, Minutes};
+use crate::minutes::{MINUTES, MinuteEntry, MinuteRow, Minutes};
 use crate::pair::{Both, Pair};
 
 pub type ActivityEntry = Both<u8, u16>;
@@ -14,22 +14,28 @@ pub type ActivityGuard = Both<FlagRow, MinuteRow>;
 pub type ActivityAlgebra = Pair<Flags, Minutes>;
 
 pub const ACTIVITY: ActivityAlgebra = Pair {
-    first: Flags,
-    second: Minutes,
+    first: FLAGS,
+    second: MINUTES,
 };
 
 // How many numbers the low eleven bits of an activity change word can hold.
 const MINUTE_NUMBERS: u16 = 2048;
 
-// The entry of an activity change word: the flags in its top five bits, the minute in its low eleven.
-pub fn entry_of_word(word: u16) -> Result<ActivityEntry, Malformed>
-    ensures value { result ≡ entry_of word }
-    ensures inside { IfOk result (λ e. activity_model.domain e ≡ true) }
-{
-    let flags = FlagEntry::new((word / MINUTE_NUMBERS) as u8)?;
-    let minute = MinuteEntry::new(word % MINUTE_NUMBERS)?;
-    Ok(Both {
-        first: flags.number(),
-        second: minute.number(),
-    })
+// An activity change word: the flags in its top five bits, the minute in its low eleven.
+#[derive(Clone, Copy, PartialEq, Eq, Debug)]
+pub struct ChangeWord(pub u16);
+
+impl TryFrom<ChangeWord> for ActivityEntry {
+    type Error = Malformed;
+
+    ghost try_from_gives = { λ word r. (r ≡ entry_of word.0) × IfOk r (λ e. activity_model.domain e ≡ true) };
+
+    fn try_from(word: ChangeWord) -> Result<ActivityEntry, Malformed> {
+        let flags = FlagEntry::try_from((word.0 / MINUTE_NUMBERS) as u8)?;
+        let minute = MinuteEntry::try_from(word.0 % MINUTE_NUMBERS)?;
+        Ok(Both {
+            first: flags.into(),
+            second: minute.into(),
+        })
+    }
 }

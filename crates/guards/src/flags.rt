@@ -1,8 +1,12 @@
 // Flags: the five bits of an activity, and guards that fix some of them.
 ghost use Rattle.std.specs.Prelude.{◌≡◌, ◌≤◌, bit_and};
 
+use crate::rows::Rows;
+use std::marker::PhantomData;
+
 mod algebra;
-mod made;
+mod conversions;
+mod printing;
 
 // The largest number of five bits.
 pub const LAST_FLAGS: u8 = 31;
@@ -45,14 +49,10 @@ pub struct FlagPattern {
     ghost within: { bit_and value care ≡ value },
 }
 
-// A guard on flags.
-#[derive(Clone, Copy)]
-pub enum FlagGuard {
-    Empty,
-    Pattern(FlagPattern),
-}
+// A guard on flags: None is the empty guard.
+pub type FlagGuard = Option<FlagPattern>;
 
-// An entry of the flags algebra.
+// An entry of the flags algebra. Minutes have a type of this shape: one over both numbers can derive no `Clone` and has no `From` back.
 #[derive(Clone, Copy)]
 pub struct FlagEntry {
     number: u8,
@@ -60,5 +60,6 @@ pub struct FlagEntry {
 }
 
 // The algebra of flags, over plain rows and plain numbers.
-#[derive(Clone, Copy)]
-pub struct Flags;
+pub type Flags = Rows<FlagPattern>;
+
+pub const FLAGS: Flags = Rows { of: PhantomData };

@@ -8,3 +8,4 @@ pub mod flags;
 pub mod malformed;
 pub mod minutes;
 pub mod pair;
+pub mod rows;

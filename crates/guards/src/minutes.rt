@@ -1,8 +1,12 @@
 // Minutes: the minutes of a day, and guards that are ranges of them.
 ghost use Rattle.std.specs.Prelude.{◌≤◌};
 
+use crate::rows::Rows;
+use std::marker::PhantomData;
+
 mod algebra;
-mod made;
+mod conversions;
+mod printing;
 
 // The last minute of a day.
 pub const LAST_MINUTE: u16 = 1439;
@@ -26,14 +30,10 @@ pub struct MinuteRange {
     ghost small: { last ≤ 1439 },
 }
 
-// A guard on minutes.
-#[derive(Clone, Copy)]
-pub enum MinuteGuard {
-    Empty,
-    Range(MinuteRange),
-}
+// A guard on minutes: None is the empty guard.
+pub type MinuteGuard = Option<MinuteRange>;
 
-// An entry of the minutes algebra.
+// An entry of the minutes algebra. Flags have a type of this shape: one over both numbers can derive no `Clone` and has no `From` back.
 #[derive(Clone, Copy)]
 pub struct MinuteEntry {
     number: u16,
@@ -41,5 +41,6 @@ pub struct MinuteEntry {
 }
 
 // The algebra of minutes, over plain rows and plain numbers.
-#[derive(Clone, Copy)]
-pub struct Minutes;
+pub type Minutes = Rows<MinuteRange>;
+
+pub const MINUTES: Minutes = Rows { of: PhantomData };

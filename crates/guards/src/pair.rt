@@ -1,5 +1,6 @@
 // Pairs: two algebras side by side.
 mod algebra;
+mod printing;
 
 // A pair of entries, or of guards.
 #[derive(Clone, Copy, PartialEq, Eq, Debug)]

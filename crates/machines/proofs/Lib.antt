@@ -1,9 +1,8 @@
 pub mod CallRuns
 pub mod CheckedCalls
 pub mod JoinedCalls
+pub mod LeastSizes
 pub mod Promised
 pub mod RunMeanings
-pub mod ToldCalls
 pub mod ToldStates
 pub mod Turned
-pub mod WritingCalls

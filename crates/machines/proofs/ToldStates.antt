@@ -4,7 +4,7 @@ use mathlib.Core.Bool.{false≢true}
 use Rattle.std.proofs.lemmas.List.{take_at}
 use Rattle.std.proofs.lemmas.Bool.{le-ltb, lt-leb, or_from}
 use Rattle.guards.specs.Algebra.{Model, Laws}
-use Rattle.guards.specs.Lists.{any}
+use Rattle.std.specs.List.{list_any}
 use Rattle.automata.specs.Faults.{refuse_if}
 use Rattle.automata.specs.Limits.{most_moves, most_word, mark_bytes}
 use Rattle.automata.specs.Machine.{Machine}
@@ -18,7 +18,8 @@ use Rattle.automata.proofs.Strays.{no_stray}
 use Rattle.machines.specs.Promised.{ToldShortest}
 use Rattle.machines.specs.Runs.{rule_machine}
 use Rattle.reduction.specs.Words.{word_or, word_length, word_placed}
-use Rattle.machines.specs.TellCall.{tell_short, unless, told_apart}
+use Rattle.machines.specs.TellCall.{unless, told_apart}
+use Rattle.machines.specs.Sizes.{is_short, tell_sizes}
 use Rattle.machines.specs.declared.clauses.Rule.{Rule}
 
 -- where every test passes, the word decides
@@ -47,8 +48,8 @@ module _ {E G : Type 0} (alg : Model E G) (laws : Laws alg) (rule : Rule) (table
       let told = kept.told p q hp hq other in
       let w = told.0 in
       let is : told_apart alg R table p q before marks ≡ Ok w =
-      tests_pass (tell_short table before marks) (any (stray R.count) R.moves) _ _ p q (word_or (word_of alg R p q))
-      (or_from _ _ (or_from _ _ (le-ltb (length table) most_moves long) (le-ltb (length before) most_word room)) (le-ltb (length marks) mark_bytes bytes))
+      tests_pass (is_short (tell_sizes (length table) (length before) (length marks))) (list_any (stray R.count) R.moves) _ _ p q (word_or (word_of alg R p q))
+      (or_from _ _ (le-ltb (length table) most_moves long) (or_from _ _ (le-ltb (length before) most_word room) (or_from _ _ (le-ltb (length marks) mark_bytes bytes) refl)))
       (no_stray alg R kept.proper.in_range) (lt-leb R.count p hp) (lt-leb R.count q hq)
       ∙ ap word_or told.1 in
       shown w r (answer ∙ ap word_length is) (buffer ∙ ap (λ t. word_placed t before) is) told.2

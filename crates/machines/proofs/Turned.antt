@@ -1,15 +1,14 @@
 -- What turning a proper machine over means.
-use Rattle.std.proofs.Common.{◌≡◌, ℕ, ◌<◌, Bool, true, false, not, List, [], ◌∷◌, sym, refl, ◌∙◌, subst}
-use Rattle.std.proofs.lemmas.Bool.{both_ways, not_from_true, not_from_false}
+use Rattle.std.proofs.Common.{◌≡◌, ℕ, ◌<◌, Bool, true, false, cond, not, ltb, List, [], ◌∷◌, sym, refl, ◌∙◌, subst, inl, inr}
+use Rattle.std.proofs.lemmas.Bool.{cases_lt, lt-ltb, le-ltb, cond-true, cond-false, both_ways, not_from_true, not_from_false}
 use Rattle.guards.specs.Algebra.{Model, Laws}
-use Rattle.machines.specs.Calls.{Turned}
-use Rattle.completion.specs.Endings.{holds}
+use Rattle.tables.specs.Endings.{holds}
 use Rattle.automata.specs.Machine.{Machine, LeadsTo, Proper}
-use Rattle.machines.specs.Turning.{OtherDays, TurnMeaning}
-use Rattle.completion.specs.Values.{machine}
-use Rattle.completion.specs.declared.counts.Counts.{Counts}
+use Rattle.machines.specs.Turning.{OtherDays}
+use Rattle.tables.specs.Values.{machine}
+use Rattle.tables.specs.declared.counts.Counts.{Counts}
 use Rattle.machines.specs.declared.clauses.Rule.{Rule}
-use Rattle.completion.specs.declared.endings.Endings.{Endings}
+use Rattle.tables.specs.declared.endings.Endings.{Endings}
 use Rattle.automata.specs.declared.moves.Move.{Move}
 use Rattle.automata.proofs.MachineRuns.{walk_day}
 
@@ -56,10 +55,18 @@ module _ {E G : Type 0} (alg : Model E G) (laws : Laws alg) (counts : Counts) (e
       refused true h = absurd (h refl)
       refused false h = refl
 
-pub turn_means : {E G : Type 0} (alg : Model E G) (laws : Laws alg) (rule turned : Rule) → Turned rule turned → TurnMeaning alg rule turned
-turn_means alg laws rule turned t table =
-    subst (λ (counts : Counts). Proper alg (machine rule.counts rule.endings table) → Proper alg (machine counts turned.endings table) × OtherDays alg (machine rule.counts rule.endings table) (machine counts turned.endings table)) (sym t.counts)
-    (λ proper. (turned_proper alg laws rule.counts rule.endings turned.endings table below t.endings proper, other_days alg laws rule.counts rule.endings turned.endings table below t.endings proper))
+-- the endings that complementing gives: other endings below the count, and none past it
+pub turn_means : {E G : Type 0} (alg : Model E G) (laws : Laws alg) (rule : Rule) (f : Endings) → ((k : ℕ) → holds f k ≡ cond (ltb k rule.counts.states) (not (holds rule.endings k)) (holds rule.endings k))
+    → (table : List (Move G)) → Proper alg (machine rule.counts rule.endings table)
+    → Proper alg (machine rule.counts f table) × OtherDays alg (machine rule.counts rule.endings table) (machine rule.counts f table)
+turn_means alg laws rule f complement table proper =
+    (turned_proper alg laws rule.counts rule.endings f table below turned proper, other_days alg laws rule.counts rule.endings f table below turned proper)
   where
-    below : (k : ℕ) → holds turned.endings k ≡ true → k < rule.counts.states
-    below k h = subst (λ (counts : Counts). k < counts.states) t.counts (turned.within.3 k h)
+    turned : (k : ℕ) → k < rule.counts.states → holds f k ≡ not (holds rule.endings k)
+    turned k lt = complement k ∙ cond-true (ltb k rule.counts.states) (not (holds rule.endings k)) (holds rule.endings k) (lt-ltb k rule.counts.states lt)
+
+    below : (k : ℕ) → holds f k ≡ true → k < rule.counts.states
+    below k h = elim (cases_lt k rule.counts.states) [
+      | inl lt ↦ lt
+      | inr past ↦ rule.within.3 k (sym (complement k ∙ cond-false (ltb k rule.counts.states) (not (holds rule.endings k)) (holds rule.endings k) (le-ltb k rule.counts.states past)) ∙ h)
+    ]

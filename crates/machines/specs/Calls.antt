@@ -5,7 +5,7 @@ use Rattle.machines.specs.declared.clauses.Rule.{Rule}
 use Rattle.automata.specs.declared.moves.Move.{Move}
 use Rattle.automata.specs.declared.refusals.Refusal.{Refusal}
 use Rattle.automata.specs.declared.refusals.Refused.{Refused}
-use Rattle.completion.specs.Endings.{holds}
+use Rattle.tables.specs.Endings.{holds}
 use Rattle.automata.specs.Limits.{most_written, most_moves}
 use Rattle.automata.specs.Faults.{refuse_if}
 use Rattle.automata.specs.Refusals.{Told, tell, told}

@@ -1,9 +1,9 @@
 -- The call of joining: when it refuses, what it makes, and what that means.
-use Rattle.std.specs.Prelude.{◌≡◌, ℕ, Bool, ◌||◌, List, [], ◌∷◌, length, drop, Some, None, Option, Result, MatchResult, nat_lt}
+use Rattle.std.specs.Prelude.{◌≡◌, ℕ, List, [], ◌∷◌, length, drop, Some, None, Option, Result, MatchResult}
 use Rattle.guards.specs.Algebra.{Model}
 use Rattle.automata.specs.Faults.{refuse_if, join_why}
 use Rattle.automata.specs.Joining.{JoinMeaning}
-use Rattle.automata.specs.Limits.{most_states, most_moves, mark_bytes}
+use Rattle.automata.specs.Limits.{most_states}
 use Rattle.automata.specs.Machine.{Machine}
 use Rattle.automata.specs.Product.{product}
 use Rattle.automata.specs.Promises.{Kept}
@@ -12,21 +12,16 @@ use Rattle.automata.specs.Refusals.{Told, tell, told}
 use Rattle.automata.specs.Sheet.{joining, Fed, accepted_call, Comes}
 use Rattle.automata.specs.declared.joins.JoinBy.{JoinBy}
 use Rattle.automata.specs.declared.moves.Move.{Move}
-use Rattle.automata.specs.declared.pairs.StatePair.{StatePair}
 use Rattle.automata.specs.declared.refusals.Refusal.{Refusal}
 use Rattle.automata.specs.declared.refusals.Refused.{Refused}
+use Rattle.machines.specs.Sizes.{is_short}
 use Rattle.machines.specs.Runs.{rule_machine, with_checked, with_nothing, Runs}
-use Rattle.completion.specs.Values.{Within, machine}
+use Rattle.tables.specs.Values.{Within, machine}
 use Rattle.machines.specs.declared.clauses.CheckedClause.{CheckedClause}
-use Rattle.completion.specs.declared.counts.Counts.{Counts}
+use Rattle.tables.specs.declared.counts.Counts.{Counts}
 use Rattle.machines.specs.declared.clauses.Rule.{Rule}
 use Rattle.machines.specs.declared.clauses.Unjoined.{Unjoined}
-use Rattle.completion.specs.declared.endings.Endings.{Endings}
-
--- a table or buffer is shorter than its least size
-abbrev pub join_short : {G : Type 0} → List (Move G) → List (Move G) → List (Move G) → List ℕ → List StatePair → Bool
-join_short table clause_table spare marks pairs =
-    nat_lt (length table) most_moves || nat_lt (length clause_table) most_moves || nat_lt (length spare) most_moves || nat_lt (length marks) mark_bytes || nat_lt (length pairs) most_states
+use Rattle.tables.specs.declared.endings.Endings.{Endings}
 
 -- the clause with its table
 abbrev pub clause_machine : {G : Type 0} → CheckedClause → List (Move G) → Machine G
@@ -37,16 +32,17 @@ module _ {E G : Type 0} (alg : Model E G) where
   abbrev pub joined_rule : Machine G → Machine G → JoinBy → Machine G
   joined_rule R N way = reduced alg (product alg R N way)
 
-  -- the counts and endings of the joined rule, whose moves are written from place 0, and the rest of the table as it was; or the refusal, and the table as it was
-  abbrev pub Rejoined : Machine G → Machine G → JoinBy → List (Move G) → List (Move G) → Result (Counts × Endings) (Refusal E) → Type 0
-  Rejoined R N way before after r =
-      MatchResult r
-      (λ d. (join_why alg R N way ≡ None) × (machine d.0 d.1 after ≡ joined_rule R N way) × Within most_states d.0 d.1 × (drop d.0.moves after ≡ drop d.0.moves before))
-      (λ why. (join_why alg R N way ≡ Some (told why)) × (after ≡ before))
-
 module _ {E G : Type 0} (alg : Model E G) (rule : Rule) (clause : CheckedClause) (way : JoinBy) (before clause_table : List (Move G)) where
-  abbrev pub joining_why : List (Move G) → List ℕ → List StatePair → Option (Told E)
-  joining_why spare marks pairs = refuse_if (join_short before clause_table spare marks pairs) (tell 1 []) (join_why alg (rule_machine rule before) (clause_machine clause clause_table) way)
+  -- why joining is refused: a size is too small, or else rule and clause decide
+  abbrev pub joining_why : List (ℕ × ℕ) → Option (Told E)
+  joining_why sizes = refuse_if (is_short sizes) (tell 1 []) (join_why alg (rule_machine rule before) (clause_machine clause clause_table) way)
+
+  -- the counts and endings of the joined rule, whose moves are written from place 0, and the rest of the table as it was; or the refusal, and the table as it was
+  abbrev pub Rejoined : List (ℕ × ℕ) → List (Move G) → Result (Counts × Endings) (Refusal E) → Type 0
+  Rejoined sizes after r =
+      MatchResult r
+      (λ d. (joining_why sizes ≡ None) × (machine d.0 d.1 after ≡ joined_rule alg (rule_machine rule before) (clause_machine clause clause_table) way) × Within most_states d.0 d.1 × (drop d.0.moves after ≡ drop d.0.moves before))
+      (λ why. (joining_why sizes ≡ Some (told why)) × (after ≡ before))
 
   -- the joined rule with its table is what the definition makes of rule and clause; places past its moves are as they were
   pub record JoinedAs (after : List (Move G)) (new : Rule) : Type 0 where

@@ -4,5 +4,6 @@ pub mod JoinCall
 pub mod Promised
 pub mod RunCall
 pub mod Runs
+pub mod Sizes
 pub mod TellCall
 pub mod Turning

@@ -6,7 +6,7 @@ use Rattle.automata.specs.Refusals.{Told, told}
 use Rattle.automata.specs.Sheet.{Call, opening, adding, marking, writing, checking, discarding, turning, Fed, accepted_call, refused_call, InHand, nothing, open_clause, checked_clause, Sheet, Comes}
 use Rattle.automata.specs.declared.moves.Move.{Move}
 use Rattle.automata.specs.declared.refusals.Refused.{Refused}
-use Rattle.completion.specs.Values.{machine}
+use Rattle.tables.specs.Values.{machine}
 use Rattle.machines.specs.declared.clauses.CheckedClause.{CheckedClause}
 use Rattle.machines.specs.declared.clauses.OpenClause.{OpenClause}
 use Rattle.machines.specs.declared.clauses.Rule.{Rule}

@@ -2,7 +2,7 @@
 use Rattle.std.specs.Prelude.{List}
 use Rattle.guards.specs.Algebra.{Model}
 use Rattle.automata.specs.Machine.{Machine, Day, Accepts, Proper}
-use Rattle.completion.specs.Values.{machine}
+use Rattle.tables.specs.Values.{machine}
 use Rattle.machines.specs.declared.clauses.Rule.{Rule}
 use Rattle.automata.specs.declared.moves.Move.{Move}
 

@@ -1,9 +1,11 @@
-// The moved values of a sheet: an open clause, a checked clause and a rule. Their moves lie in tables beside them.
+// The moved values of a sheet: an open clause, a checked clause and a rule. Their moves lie in tables beside them, which the caller
+// keeps: a value that borrowed its table could not be handed from call to call with it.
+// They are three types, each with its own limit, so that a call takes only what may be handed to it.
 ghost use Rattle.automata.specs.Limits.{most_states, most_written};
-ghost use Rattle.completion.specs.Values.{Within};
+ghost use Rattle.tables.specs.Values.{Within};
 
-use completion::counts::Counts;
-use completion::endings::Endings;
+use tables::counts::Counts;
+use tables::endings::Endings;
 
 mod checked;
 mod checking;
@@ -11,6 +13,7 @@ mod joining;
 mod open;
 mod rules;
 mod running;
+mod states;
 mod telling;
 
 // A clause that is being written. It is spent by checking or discarding it.

@@ -2,3 +2,5 @@
 #![tactic(auto)]
 
 pub mod clauses;
+mod sizes;
+pub mod work;

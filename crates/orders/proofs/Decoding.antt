@@ -118,7 +118,6 @@ with_minutes m a b = Write (record { from = m.from; guard = record { first = m.g
 
 -- an order's bytes ask for it
 decoded_bytes : (o : Order) → decoded (bytes_of o) ≡ Ok o
-unfolding blank
 decoded_bytes Open = refl
 decoded_bytes Add = refl
 decoded_bytes (Mark s) = refl

@@ -1,5 +1,6 @@
 -- Order records: the ten bytes of an order, the order that bytes ask for, and the check of its numbers.
-use Rattle.std.specs.Prelude.{◌≡◌, ℕ, ◌+◌, ◌*◌, ◌/◌, ◌%◌, Bool, true, cond, ◌&&◌, List, [], ◌∷◌, length, drop, Some, None, Ok, Err, Option, Result, ◌==◌, ◌≢◌, slice_index}
+use Rattle.std.specs.Prelude.{◌≡◌, ℕ, ◌+◌, ◌*◌, ◌/◌, ◌%◌, Bool, cond, List, [], ◌∷◌, length, drop, Some, None, Ok, Err, Option, Result, ◌==◌, ◌≢◌, slice_index}
+use Rattle.std.specs.List.{list_all}
 use Rattle.std.specs.Option.{ok_or}
 use Rattle.guards.specs.Flags.{flags, is_pattern}
 use Rattle.guards.specs.Minutes.{minutes, is_range}
@@ -66,9 +67,8 @@ abbrev pub number_at : List ℕ → ℕ → ℕ → ℕ
 number_at bs i j = byte_at bs i * 256 + byte_at bs j
 
 -- every byte is zero
-unfoldable pub blank : List ℕ → Bool
-blank [] = true
-blank (b ∷ bs) = b == 0 && blank bs
+abbrev pub blank : List ℕ → Bool
+blank = list_all (λ b. b == 0)
 
 -- the move that bytes 1 to 4 and 6 to 9 are
 abbrev pub move_of : List ℕ → Move (Both FlagRow MinuteRow)
@@ -114,6 +114,11 @@ decoded bs = ok_or (asked bs) OutOfPlace
 abbrev pub Meaning : List ℕ → Answer → Type 0
 Meaning bs (Ok o) = bs ≡ bytes_of o
 Meaning bs (Err why) = (why ≡ OutOfPlace) × ((o : Order) → bs ≢ bytes_of o)
+
+-- the answer is the one decoded, and means what it should
+pub record Decodes (bytes : List ℕ) (answer : Answer) : Type 0 where
+  pub value : answer ≡ decoded bytes
+  pub meaning : Meaning bytes answer
 
 -- which numbers of a guard are at fault: the flags are looked at first
 abbrev pub fault : Both FlagRow MinuteRow → Option Malformed

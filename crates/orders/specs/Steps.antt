@@ -14,7 +14,7 @@ use Rattle.orders.specs.Records.{Answer, numbers_checked}
 use Rattle.orders.specs.declared.hand.Hand.{Hand}
 use Rattle.orders.specs.declared.hand.Hand.TheVariants.{Nothing, Open as OpenHand, Checked as CheckedHand}
 use Rattle.orders.specs.declared.order.Order.{Order}
-use Rattle.orders.specs.declared.steps.Stepped.{Stepped}
+use Rattle.orders.specs.declared.steps.Reader.{Reader}
 use Rattle.orders.specs.declared.order.Order.TheVariants.{Open, Add, Mark, Write, Check, Join, Turn, Discard}
 
 -- why there is a refusal, if there is one
@@ -39,15 +39,10 @@ sheet hand rule table = record { hand = hand; rule = rule; table = table }
 
 -- ---- what the hand and the rule are after a call
 
--- a call's answer with its clause in hand
-abbrev pub in_hand : Called OpenClause → Called Hand
-in_hand (Ok c) = Ok (OpenHand c)
-in_hand (Err back) = Err (record { value = OpenHand back.value; why = back.why })
-
 -- the rule beside the hand
-abbrev pub with_rule : Called Hand → Rule → Stepped
-with_rule (Ok hand) rule = record { hand = hand; rule = rule; refusal = None }
-with_rule (Err back) rule = record { hand = back.value; rule = rule; refusal = Some back.why }
+abbrev pub with_rule : Called Hand → Rule → Called Reader
+with_rule (Ok hand) rule = Ok (record { hand = hand; rule = rule })
+with_rule (Err back) rule = Err (record { value = record { hand = back.value; rule = rule }; why = back.why })
 
 -- ---- when an order is refused
 
@@ -132,3 +127,8 @@ record_why s answer = needs_order (order_why s.hand s.table) answer
 abbrev pub Step : Answer → Sheet → Option (Refusal (Both ℕ ℕ)) → Sheet → Type 0
 Step answer s (Some why) t = (record_why s answer ≡ Some (told why)) × (t ≡ s)
 Step answer s None t = (record_why s answer ≡ None) × AppliedAnswer answer s t
+
+-- so it is with the reader before the record, and the one that goes on or is handed back
+abbrev pub Steps : Answer → Reader → List ActivityMove → List ActivityMove → Called Reader → Type 0
+Steps answer reader before after (Ok next) = Step answer (sheet reader.hand reader.rule before) None (sheet next.hand next.rule after)
+Steps answer reader before after (Err back) = Step answer (sheet reader.hand reader.rule before) (Some back.why) (sheet back.value.hand back.value.rule after)

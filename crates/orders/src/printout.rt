@@ -1,6 +1,6 @@
 // The printout: the lines that tell which records were refused and what the standing rule is.
 ghost use Rattle.std.specs.Prelude.{◌≡◌, Some};
-ghost use Rattle.completion.specs.Endings.{holds};
+ghost use Rattle.tables.specs.Endings.{holds};
 ghost use Rattle.automata.specs.Refusals.{told};
 ghost use Rattle.orders.specs.Printout.{text};
 
@@ -13,12 +13,21 @@ use std::fmt;
 // One line of a printout.
 #[derive(Clone, Copy)]
 pub enum Line {
-    // A record that was refused, and the refusal's number.
-    Refused { place: usize, number: u8 },
+    // A record that was refused, and why.
+    Refused {
+        place: usize,
+        why: Refusal<ActivityEntry>,
+    },
     // How many states and how many counted moves the rule has.
-    Counts { states: usize, moves: usize },
+    Counts {
+        states: usize,
+        moves: usize,
+    },
     // A state of the rule, and whether it is an ending.
-    State { number: usize, is_ending: bool },
+    State {
+        number: usize,
+        is_ending: bool,
+    },
     // A counted move of the rule.
     Counted(Move<ActivityGuard>),
 }
@@ -26,12 +35,9 @@ pub enum Line {
 impl Line {
     // The line of a refused record.
     pub fn refused(place: usize, why: &Refusal<ActivityEntry>) -> Line
-        ensures { result ≡ Line.Refused place (told why.now).number }
+        ensures { result ≡ Line.Refused place why.now }
     {
-        Line::Refused {
-            place,
-            number: why.number(),
-        }
+        Line::Refused { place, why: *why }
     }
 
     // The line of the rule's counts.
@@ -61,7 +67,10 @@ impl fmt::Display for Line {
 
     fn fmt<W: fmt::Write>(&self, f: &mut fmt::Formatter<W>) -> fmt::Result {
         match *self {
-            Line::Refused { place, number } => write!(f, "record {place} refusal {number}"),
+            Line::Refused { place, why } => {
+                let number = why.number();
+                write!(f, "record {place} refusal {number}")
+            }
             Line::Counts { states, moves } => write!(f, "states {states} moves {moves}"),
             Line::State {
                 number,
@@ -71,14 +80,7 @@ impl fmt::Display for Line {
                 number,
                 is_ending: false,
             } => write!(f, "state {number} no"),
-            Line::Counted(line) => {
-                let Move { from, guard, to } = line;
-                let care = guard.first.care;
-                let value = guard.first.value;
-                let first = guard.second.first;
-                let last = guard.second.last;
-                write!(f, "move {from} {care} {value} {first} {last} {to}")
-            }
+            Line::Counted(line) => write!(f, "{line}"),
         }
     }
 }

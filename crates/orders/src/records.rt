@@ -1,15 +1,15 @@
 // Order records: ten bytes that ask for one order. Bytes that a letter does not use are zero, so an order has one record.
-ghost use Rattle.std.specs.Prelude.{◌≡◌, ◌+◌, ◌*◌, ◌≤◌, length, drop};
-ghost use Rattle.orders.specs.Records.{asked, blank, decoded, fault, lettered, mark_asked, move_of, numbers_checked, plain_asked, plain_orders, then_checked, write_asked, Meaning};
+ghost use Rattle.std.specs.Prelude.{◌≡◌, Some, None, MatchResult};
+ghost use Rattle.orders.specs.Records.{Decodes, asked, blank, decoded, fault, lettered, mark_asked, move_of, numbers_checked, plain_asked, plain_orders, then_checked, write_asked, Meaning};
 
 use crate::order::Order;
 use automata::joins::JoinBy;
 use automata::moves::Move;
 use automata::refusals::Refusal;
 use guards::activity::{ActivityEntry, ActivityGuard};
-use guards::flags::{FlagGuard, FlagRow};
+use guards::flags::{FlagPattern, FlagRow};
 use guards::malformed::Malformed;
-use guards::minutes::{MinuteGuard, MinuteRow};
+use guards::minutes::{MinuteRange, MinuteRow};
 use guards::pair::Both;
 
 // The bytes of one record.
@@ -20,33 +20,6 @@ pub const INPUT_RECORDS: usize = 4_096;
 
 // The most bytes that one input has.
 pub const INPUT_BYTES: usize = INPUT_RECORDS * RECORD_BYTES;
-
-// Whether every byte is zero.
-fn is_blank(bytes: &[u8]) -> bool
-    ensures { result ≡ blank bytes.now }
-{
-    for byte in bytes {
-        if *byte != 0 {
-            return false;
-        }
-    }
-    true
-}
-
-// Whether every byte from a place on is zero.
-fn is_blank_from(bytes: &[u8], start: usize) -> bool
-    requires { start ≤ length bytes.now }
-    ensures { result ≡ blank (drop start bytes.now) }
-{
-    is_blank(&bytes[start..])
-}
-
-// The number of two bytes, high byte first.
-fn joined(high: u8, low: u8) -> u16
-    ensures { result ≡ high * 256 + low }
-{
-    u16::from(high) * 256 + u16::from(low)
-}
 
 // The order of a letter that says it all: no other byte is used.
 fn lettered_order(letter: u8) -> Option<Order>
@@ -65,44 +38,50 @@ fn lettered_order(letter: u8) -> Option<Order>
     }
 }
 
-// The guard that a record writes.
-fn guard_of(bytes: &[u8]) -> ActivityGuard
-    requires { length bytes.now ≡ 10 }
-    ensures { result ≡ (move_of bytes.now).guard }
-{
-    Both {
-        first: FlagRow {
-            care: bytes[3],
-            value: bytes[4],
-        },
-        second: MinuteRow {
-            first: joined(bytes[6], bytes[7]),
-            last: joined(bytes[8], bytes[9]),
-        },
-    }
-}
-
 // The order of a record whose letter is M.
-fn write_order(bytes: &[u8]) -> Option<Order>
-    requires { length bytes.now ≡ 10 }
+fn write_order(bytes: &[u8; RECORD_BYTES]) -> Option<Order>
     ensures { result ≡ write_asked bytes.now }
 {
-    if bytes[5] != 0 {
+    let [
+        _,
+        from,
+        to,
+        care,
+        value,
+        unused,
+        first_high,
+        first_low,
+        last_high,
+        last_low,
+    ] = *bytes;
+    if unused != 0 {
         return None;
     }
     Some(Order::Write(Move {
-        from: usize::from(bytes[1]),
-        guard: guard_of(bytes),
-        to: usize::from(bytes[2]),
+        from: usize::from(from),
+        guard: Both {
+            first: FlagRow { care, value },
+            second: MinuteRow {
+                first: u16::from_be_bytes([first_high, first_low]),
+                last: u16::from_be_bytes([last_high, last_low]),
+            },
+        },
+        to: usize::from(to),
     }))
 }
 
+// Whether every byte is zero.
+fn is_blank(bytes: &[u8]) -> bool
+    ensures { result ≡ blank bytes.now }
+{
+    bytes.iter().all(|byte| *byte == 0)
+}
+
 // The order of a record whose letter is E.
-fn mark_order(bytes: &[u8]) -> Option<Order>
-    requires { length bytes.now ≡ 10 }
+fn mark_order(bytes: &[u8; RECORD_BYTES]) -> Option<Order>
     ensures { result ≡ mark_asked bytes.now }
 {
-    if is_blank_from(bytes, 2) {
+    if is_blank(&bytes[2..]) {
         Some(Order::Mark(usize::from(bytes[1])))
     } else {
         None
@@ -110,11 +89,10 @@ fn mark_order(bytes: &[u8]) -> Option<Order>
 }
 
 // The order of a record whose letter uses no other byte.
-fn plain_order(bytes: &[u8]) -> Option<Order>
-    requires { length bytes.now ≡ 10 }
+fn plain_order(bytes: &[u8; RECORD_BYTES]) -> Option<Order>
     ensures { result ≡ plain_asked bytes.now }
 {
-    if is_blank_from(bytes, 1) {
+    if is_blank(&bytes[1..]) {
         lettered_order(bytes[0])
     } else {
         None
@@ -125,9 +103,7 @@ fn plain_order(bytes: &[u8]) -> Option<Order>
 fn asked_order(bytes: &[u8]) -> Option<Order>
     ensures { result ≡ asked bytes.now }
 {
-    if bytes.len() != RECORD_BYTES {
-        return None;
-    }
+    let bytes: &[u8; RECORD_BYTES] = bytes.try_into().ok()?;
     match bytes[0] {
         b'M' => write_order(bytes),
         b'E' => mark_order(bytes),
@@ -136,24 +112,23 @@ fn asked_order(bytes: &[u8]) -> Option<Order>
 }
 
 // The order that the bytes are the record of; any other bytes are out of place.
-pub fn decode(bytes: &[u8]) -> Result<Order, Refusal<ActivityEntry>>
-    ensures value { result ≡ decoded bytes.now }
-    ensures meaning { Meaning bytes.now result }
-{
-    asked_order(bytes).ok_or(Refusal::OutOfPlace)
+impl TryFrom<&[u8]> for Order {
+    type Error = Refusal<ActivityEntry>;
+
+    ghost try_from_gives = { λ bytes answer. Decodes bytes.now answer };
+
+    fn try_from(bytes: &[u8]) -> Result<Order, Refusal<ActivityEntry>> {
+        asked_order(bytes).ok_or(Refusal::OutOfPlace)
+    }
 }
 
-// Which numbers of a guard are at fault, if any are: the flags come first.
-fn fault_of(guard: ActivityGuard) -> Option<Malformed>
-    ensures { result ≡ fault guard }
+// Refuses numbers that make no guard: the flags are looked at first.
+fn test_numbers(guard: ActivityGuard) -> Result<(), Malformed>
+    ensures { MatchResult result (λ _. fault guard ≡ None) (λ why. fault guard ≡ Some why) }
 {
-    if let Err(why) = FlagGuard::new(guard.first) {
-        return Some(why);
-    }
-    match MinuteGuard::new(guard.second) {
-        Ok(_) => None,
-        Err(why) => Some(why),
-    }
+    FlagPattern::try_from(guard.first)?;
+    MinuteRange::try_from(guard.second)?;
+    Ok(())
 }
 
 // The order itself, unless it writes a move whose numbers make no guard.
@@ -161,9 +136,7 @@ pub fn checked(order: Order) -> Result<Order, Refusal<ActivityEntry>>
     ensures { result ≡ numbers_checked order }
 {
     if let Order::Write(line) = order {
-        if let Some(why) = fault_of(line.guard) {
-            return Err(Refusal::BadNumbers(why));
-        }
+        test_numbers(line.guard)?;
     }
     Ok(order)
 }
@@ -172,5 +145,5 @@ pub fn checked(order: Order) -> Result<Order, Refusal<ActivityEntry>>
 pub fn read(bytes: &[u8]) -> Result<Order, Refusal<ActivityEntry>>
     ensures { result ≡ then_checked (decoded bytes.now) }
 {
-    checked(decode(bytes)?)
+    checked(Order::try_from(bytes)?)
 }

@@ -1,8 +1,8 @@
 // The step of one record: its order is applied to the hand, the rule and the clause's table, or it is refused.
-ghost use Rattle.std.specs.Prelude.{◌≡◌, None, Ok};
+ghost use Rattle.std.specs.Prelude.{◌≡◌, Ok};
 ghost use Rattle.machines.specs.Calls.{Outcome, Opened, Marked, Turned, Written, adding_refused, marking_refused};
 ghost use Rattle.orders.specs.Records.{decoded};
-ghost use Rattle.orders.specs.Steps.{AddedTo, HoldsOpen, OpenTo, in_hand, needs_clause, needs_nothing, needs_open, out_of_place, sheet, with_rule, writing_why, Step};
+ghost use Rattle.orders.specs.Steps.{AddedTo, HoldsOpen, OpenTo, needs_clause, needs_nothing, needs_open, out_of_place, with_rule, writing_why, Steps};
 ghost use Rattle.orders.specs.declared.hand.Hand.TheVariants.{Nothing};
 
 use crate::hand::Hand;
@@ -29,11 +29,10 @@ pub const UNWRITTEN: Move<ActivityGuard> = Move {
 // What an order makes of the hand, or the hand as it was and why.
 type Handled = Result<Hand, Refused<Hand, ActivityEntry>>;
 
-// What a record leaves: the hand and the rule, and why it was refused, if it was.
-pub struct Stepped {
+// The reader of records: what it holds in hand, and the standing rule. It is moved through each step.
+pub struct Reader {
     pub hand: Hand,
     pub rule: Rule,
-    pub refusal: Option<Refusal<ActivityEntry>>,
 }
 
 // A hand that does not fit the order.
@@ -46,20 +45,12 @@ fn misplaced(hand: Hand) -> Handled
     })
 }
 
-// An open clause back in hand, as a call made it or handed it back.
-fn in_hand(called: Result<OpenClause, Refused<OpenClause, ActivityEntry>>) -> Handled
-    ensures { result ≡ in_hand called }
+// A refused call on an open clause, with the clause back in hand.
+fn back_in_hand(refused: Refused<OpenClause, ActivityEntry>) -> Refused<Hand, ActivityEntry>
+    ensures why { result.why ≡ refused.why }
+    ensures hand { result.value ≡ Hand.Open refused.value }
 {
-    match called {
-        Ok(clause) => Ok(Hand::Open(clause)),
-        Err(refused) => {
-            let Refused { value, why } = refused;
-            Err(Refused {
-                value: Hand::Open(value),
-                why,
-            })
-        }
-    }
+    refused.map(|clause| Hand::Open(clause))
 }
 
 // O: opens a clause if nothing is in hand.
@@ -77,13 +68,10 @@ fn add(hand: Hand) -> Handled
     ensures { Outcome (needs_open adding_refused hand) (OpenTo AddedTo hand) hand (Unit {0}) result }
 {
     match hand {
-        Hand::Open(clause) => match clause.add(&ACTIVITY) {
-            Ok(added) => {
-                let (clause, _) = added;
-                Ok(Hand::Open(clause))
-            }
-            Err(refused) => in_hand(Err(refused)),
-        },
+        Hand::Open(clause) => {
+            let (clause, _) = clause.add(&ACTIVITY).map_err(back_in_hand)?;
+            Ok(Hand::Open(clause))
+        }
         other => misplaced(other),
     }
 }
@@ -93,7 +81,7 @@ fn mark(hand: Hand, state: usize) -> Handled
     ensures { Outcome (needs_open (λ c. marking_refused c state) hand) (OpenTo (λ c. Marked c state) hand) hand (Unit {0}) result }
 {
     match hand {
-        Hand::Open(clause) => in_hand(clause.mark(&ACTIVITY, state)),
+        Hand::Open(clause) => Ok(Hand::Open(clause.mark(&ACTIVITY, state).map_err(back_in_hand)?)),
         other => misplaced(other),
     }
 }
@@ -104,8 +92,12 @@ fn write(hand: Hand, clause_table: &mut [Move<ActivityGuard>], line: Move<Activi
 {
     match hand {
         Hand::Open(clause) => match records::checked(Order::Write(line)) {
-            Ok(_) => in_hand(clause.write(&ACTIVITY, clause_table, line)),
-            Err(why) => in_hand(Err(Refused { value: clause, why })),
+            Ok(_) => Ok(Hand::Open(
+                clause
+                    .write(&ACTIVITY, clause_table, line)
+                    .map_err(back_in_hand)?,
+            )),
+            Err(why) => Err(back_in_hand(Refused { value: clause, why })),
         },
         other => misplaced(other),
     }
@@ -124,75 +116,74 @@ fn discard(hand: Hand) -> Handled
     }
 }
 
-// C, B, I and X: checking and joining are not built yet, so they fit no hand.
-fn unbuilt(hand: Hand) -> Handled
-    ensures { Outcome out_of_place (λ _. ⊥) hand (Unit {0}) result }
-{
-    misplaced(hand)
-}
-
-// The rule beside what an order made of the hand.
-fn with_rule(handled: Handled, rule: Rule) -> Stepped
+// The reader with what an order made of the hand. `map` of a refused call is no help: no closure may hold a rule.
+fn with_rule(handled: Handled, rule: Rule) -> Result<Reader, Refused<Reader, ActivityEntry>>
     ensures { result ≡ with_rule handled rule }
 {
     match handled {
-        Ok(hand) => Stepped {
-            hand,
+        Ok(hand) => Ok(Reader { hand, rule }),
+        Err(Refused { value, why }) => Err(Refused {
+            value: Reader { hand: value, rule },
+            why,
+        }),
+    }
+}
+
+impl Reader {
+    // A reader with nothing in hand.
+    pub fn new(rule: Rule) -> Reader
+        ensures { result ≡ record { hand = Hand.Nothing; rule = rule } }
+    {
+        Reader {
+            hand: Hand::Nothing,
             rule,
-            refusal: None,
-        },
-        Err(refused) => {
-            let Refused { value, why } = refused;
-            Stepped {
-                hand: value,
-                rule,
-                refusal: Some(why),
-            }
         }
     }
-}
 
-// T: turns the rule, whatever is in hand.
-fn turn(hand: Hand, rule: Rule) -> Stepped
-    ensures { (result.hand ≡ hand) × Turned rule result.rule × (result.refusal ≡ None) }
-{
-    Stepped {
-        hand,
-        rule: rule.turn(&ACTIVITY),
-        refusal: None,
+    // The step of an order.
+    fn apply(
+        self,
+        clause_table: &mut [Move<ActivityGuard>],
+        order: Order,
+    ) -> Result<Reader, Refused<Reader, ActivityEntry>>
+        ensures { Steps (Ok order) self clause_table.old clause_table.new result }
+    {
+        let Reader { hand, rule } = self;
+        match order {
+            Order::Open => with_rule(open(hand), rule),
+            Order::Add => with_rule(add(hand), rule),
+            Order::Mark(state) => with_rule(mark(hand, state), rule),
+            Order::Write(line) => with_rule(write(hand, clause_table, line), rule),
+            // Checking and joining are not built yet, so they fit no hand.
+            Order::Check | Order::Join(_) => with_rule(misplaced(hand), rule),
+            Order::Turn => Ok(Reader {
+                hand,
+                rule: rule.turn(&ACTIVITY),
+            }),
+            Order::Discard => with_rule(discard(hand), rule),
+        }
     }
-}
 
-// The step of an order.
-fn apply(hand: Hand, rule: Rule, clause_table: &mut [Move<ActivityGuard>], order: Order) -> Stepped
-    ensures { Step (Ok order) (sheet hand rule clause_table.old) result.refusal (sheet result.hand result.rule clause_table.new) }
-{
-    match order {
-        Order::Open => with_rule(open(hand), rule),
-        Order::Add => with_rule(add(hand), rule),
-        Order::Mark(state) => with_rule(mark(hand, state), rule),
-        Order::Write(line) => with_rule(write(hand, clause_table, line), rule),
-        Order::Check | Order::Join(_) => with_rule(unbuilt(hand), rule),
-        Order::Turn => turn(hand, rule),
-        Order::Discard => with_rule(discard(hand), rule),
+    // The step of a record, which asks for an order or is out of place. A refusal hands the reader back as it was.
+    pub fn step(
+        self,
+        clause_table: &mut [Move<ActivityGuard>],
+        bytes: &[u8],
+    ) -> Result<Reader, Refused<Reader, ActivityEntry>>
+        ensures { Steps (decoded bytes.now) self clause_table.old clause_table.new result }
+    {
+        match Order::try_from(bytes) {
+            Ok(order) => self.apply(clause_table, order),
+            Err(why) => Err(Refused { value: self, why }),
+        }
     }
-}
 
-// The step of a record, which asks for an order or is out of place.
-pub fn step(
-    hand: Hand,
-    rule: Rule,
-    clause_table: &mut [Move<ActivityGuard>],
-    bytes: &[u8],
-) -> Stepped
-    ensures { Step (decoded bytes.now) (sheet hand rule clause_table.old) result.refusal (sheet result.hand result.rule clause_table.new) }
-{
-    match records::decode(bytes) {
-        Ok(order) => apply(hand, rule, clause_table, order),
-        Err(why) => Stepped {
-            hand,
-            rule,
-            refusal: Some(why),
-        },
+    // Ends what is in hand; the rule that stands is left.
+    pub fn end(self) -> Rule
+        ensures { result ≡ self.rule }
+    {
+        let Reader { hand, rule } = self;
+        hand.discard();
+        rule
     }
 }

@@ -1,8 +1,12 @@
 pub mod ClassPlaces
-pub mod NumberedPairs
-pub mod PairQueues
+pub mod FirstPasses
+pub mod MovesLeft
+pub mod NextRounds
+pub mod PairsReached
+pub mod PlacedMore
 pub mod ProductsBuilt
+pub mod PutMoves
 pub mod ReducedTables
-pub mod RoundMarks
+pub mod Refused
 pub mod RoundsTold
 pub mod WordLoop

@@ -1,99 +1,61 @@
--- The product as it is built: when it is refused, and that its counts, endings and moves are those of the definition.
-use Rattle.std.proofs.Common.{◌≡◌, ℕ, ◌<◌, ◌≤◌, Bool, true, false, ltb, List, [], map, length, get_or, take, Some, None, Ok, sym, ap, ◌∙◌, subst, inl, inr, arith}
+-- The product as it is built: when it is refused, and that its count, endings and moves are those of the definition.
+use Rattle.std.proofs.Common.{◌≡◌, ℕ, ◌<◌, ◌≤◌, Bool, true, false, ltb, List, map, length, get_or, None, ap, ◌∙◌, sym, inl, inr, arith}
 use lib.ListN.{length-map}
-use Rattle.std.specs.List.{flat_map}
-use Rattle.std.proofs.lemmas.List.{get_or_past, length-take-le}
-use Rattle.std.proofs.lemmas.Bool.{both_ways, cases_lt, cond-true, cond-false, le-ltb, lt-ltb}
+use Rattle.std.specs.List.{flat_map, list_any}
+use Rattle.std.proofs.lemmas.List.{get_or_past}
+use Rattle.std.proofs.lemmas.Bool.{both_ways, cases_lt, cond-false, le-ltb}
 use Rattle.guards.specs.Algebra.{Model, Laws}
-use Rattle.guards.specs.Lists.{Member, any}
-use Rattle.automata.specs.Filled.{Filled}
-use Rattle.automata.specs.Limits.{most_states, most_moves, mark_bytes}
+use Rattle.automata.specs.Limits.{most_states, most_moves}
 use Rattle.automata.specs.Machine.{Machine}
-use Rattle.automata.specs.Product.{chosen, pair_targets, pairs, product, same_pair, start_pair}
-use Rattle.automata.specs.Refusals.{tell}
+use Rattle.automata.specs.Product.{chosen, pairs, product, product_moves}
 use Rattle.automata.specs.Running.{stray}
-use Rattle.automata.specs.Search.{reached}
 use Rattle.automata.specs.declared.joins.JoinBy.{JoinBy}
 use Rattle.automata.specs.declared.moves.Move.{Move}
 use Rattle.automata.specs.declared.pairs.StatePair.{StatePair}
-use Rattle.completion.specs.Endings.{holds}
-use Rattle.reduction.specs.Pairing.{MeetsMarked, PairMarked, PairsQueued, ProductBuilt, pair_placed, product_why}
-use Rattle.completion.specs.declared.endings.Endings.{Endings}
-use Rattle.completion.proofs.CheckCalls.{machine_is}
-use Rattle.reduction.proofs.NumberedPairs.{PairNumbers, pairs_found, pairs_marked, pairs_some, placed_same, tracks_pairs}
+use Rattle.automata.proofs.ProductStrays.{product_no_stray}
+use Rattle.automata.proofs.ReachedPairs.{pairs_searched}
+use Rattle.tables.specs.Endings.{holds}
+use Rattle.tables.specs.Machines.{machine_of}
+use Rattle.tables.specs.declared.endings.Endings.{Endings}
+use Rattle.tables.specs.declared.machines.Machine.{Machine as TableMachine}
+use Rattle.reduction.specs.Products.{product_why}
 
-module _ {E G : Type 0} (alg : Model E G) (M N : Machine G) (way : JoinBy) where
-  -- more pairs than states refuse
-  too_many : most_states < length (pairs alg M N) → product_why alg M N way ≡ Some (tell 7 [])
-  too_many many = cond-true (ltb most_states (length (pairs alg M N))) _ _ (lt-ltb most_states (length (pairs alg M N)) many)
+module _ {E G : Type 0} (alg : Model E G) (laws : Laws alg) (rule clause : TableMachine G) (way : JoinBy) where
+  abbrev M : Machine G
+  M = machine_of rule
 
-  module _ (few : length (pairs alg M N) ≤ most_states) where
-    -- else more moves than a table has refuse
-    too_large : most_moves < length (product alg M N way).moves → product_why alg M N way ≡ Some (tell 6 [])
-    too_large many =
-        cond-false (ltb most_states (length (pairs alg M N))) _ _ (le-ltb most_states (length (pairs alg M N)) few)
-        ∙ cond-true (ltb most_moves (length (product alg M N way).moves)) _ _ (lt-ltb most_moves (length (product alg M N way).moves) many)
-
-    not_large : length (product alg M N way).moves ≤ most_moves → product_why alg M N way ≡ None
-    not_large fits =
-        cond-false (ltb most_states (length (pairs alg M N))) _ _ (le-ltb most_states (length (pairs alg M N)) few)
-        ∙ cond-false (ltb most_moves (length (product alg M N way).moves)) _ _ (le-ltb most_moves (length (product alg M N way).moves) fits)
+  abbrev N : Machine G
+  N = machine_of clause
 
   abbrev ends : StatePair → Bool
   ends x = chosen way (M.endings x.rule) (N.endings x.clause)
 
-  -- the endings of the product are pairs
-  ends_below : (k : ℕ) → (product alg M N way).endings k ≡ true → k < length (pairs alg M N)
-  ends_below k t = elim (cases_lt k (length (pairs alg M N))) [
-    | inl lt ↦ lt
-    | inr past ↦ absurd (both_ways (get_or (map ends (pairs alg M N)) k false) (get_or_past (map ends (pairs alg M N)) k false (omega (arith, length-map (pairs alg M N) ends))) t)
-  ]
+  -- what a machine of so many states, with these endings and moves, keeps and is
+  pub record Built (states : ℕ) (endings : Endings) (moves : List (Move G)) : Type 0 where
+    pub allowed : product_why alg M N way ≡ None
+    pub is : record { count = states; endings = holds endings; moves = moves } ≡ product alg M N way
+    pub some : 0 < states
+    pub below : (k : ℕ) → holds endings k ≡ true → k < states
+    pub no_stray : list_any (stray states) moves ≡ false
 
--- the machines M and N, of the moves us and vs
-module _ {E G : Type 0} (alg : Model E G) (laws : Laws alg) (M N : Machine G) (way : JoinBy) (some_rule : 0 < M.count) (some_clause : 0 < N.count) (few_rule : M.count ≤ most_states) (few_clause : N.count ≤ most_states)
-    (no_rule : any (stray M.count) M.moves ≡ false) (no_clause : any (stray N.count) N.moves ≡ false) (us vs : List (Move G)) (rule_is : us ≡ M.moves) (clause_is : vs ≡ N.moves) where
-  abbrev searched : List StatePair
-  searched = reached same_pair (pair_targets alg us vs) mark_bytes start_pair
-
-  all_found : searched ≡ pairs alg M N
-  all_found = pairs_found alg laws M N some_rule some_clause no_rule no_clause us vs rule_is clause_is few_rule few_clause
-
-  -- where the pairs have no room there are too many
-  pub many_pairs : (queue : List StatePair) → length queue ≡ most_states → length queue < length searched → product_why alg M N way ≡ Some (tell 7 [])
-  many_pairs queue size short = too_many alg M N way (omega (arith, ap length all_found))
-
-  -- the queue has the pairs
-  module _ (marks : List ℕ) (queue : List StatePair) (n : ℕ) (queued : PairsQueued searched marks queue (Some n)) (bytes : length marks ≡ mark_bytes) (size : length queue ≡ most_states) (xs : List StatePair) (xs_are : xs ≡ take n queue) where
-    pairs_are : xs ≡ pairs alg M N
-    pairs_are = xs_are ∙ queued.1 ∙ all_found
-
-    counted : n ≡ length (pairs alg M N)
-    counted = sym (length-take-le n queue queued.0.room) ∙ ap length (queued.1 ∙ all_found)
-
-    numbers : PairNumbers marks xs
-    numbers = subst (PairNumbers marks) (sym xs_are) (tracks_pairs marks queue n queued.0 bytes)
-
-    pub marked : (x : StatePair) → Member x xs → PairMarked marks x × MeetsMarked alg us vs marks x
-    marked = pairs_marked alg laws M N some_rule some_clause no_rule no_clause us vs xs rule_is clause_is pairs_are marks numbers
-
-    abbrev written : List (Move G)
-    written = flat_map (pair_placed alg us vs marks) xs
-
-    written_is : written ≡ (product alg M N way).moves
-    written_is = placed_same alg laws M N some_rule some_clause no_rule no_clause us vs xs rule_is clause_is pairs_are marks numbers
-
-    module _ (table : List (Move G)) (room : length table ≡ most_moves) where
-      -- where the moves have no room there are too many
-      pub many_moves : length table < length written → product_why alg M N way ≡ Some (tell 6 [])
-      many_moves short = too_large alg M N way (omega (arith, counted, queued.0.room)) (omega (arith, ap length written_is))
-
-      -- else the product is built
-      pub built : (moves : ℕ) (endings : Endings) → Filled written table (Some moves) → ((k : ℕ) → holds endings k ≡ get_or (map (ends alg M N way) xs) k false)
-          → ProductBuilt alg M N way table (Ok (record { states = n; moves = moves }, endings))
-      built moves endings filled holds_are =
-          let some = pairs_some alg laws M N some_rule some_clause no_rule no_clause in
-          let same : (k : ℕ) → holds endings k ≡ (product alg M N way).endings k = λ k. holds_are k ∙ ap (λ ys. get_or (map (ends alg M N way) ys) k false) pairs_are in (
-            not_large alg M N way (omega (arith, counted, queued.0.room)) (omega (arith, ap length (filled.1 ∙ written_is), length-take-le moves table filled.0, filled.0)),
-            machine_is (record { states = n; moves = moves }) endings table (product alg M N way) counted same (filled.1 ∙ written_is),
-            (omega (arith, counted), omega (arith, queued.0.room), omega (arith, filled.0), λ k t. omega (arith, counted, ends_below alg M N way k (sym (same k) ∙ t))),
-          )
+  -- so it is with the pairs that are found, their endings and their moves, if they have room
+  pub built : (found shown : List StatePair) → found ≡ pairs alg M N → shown ≡ found → (states : ℕ) (endings : Endings) (moves : List (Move G)) → states ≡ length found
+      → ((k : ℕ) → holds endings k ≡ get_or (map ends shown) k false) → moves ≡ flat_map (product_moves alg M N) found → states ≤ most_states → length moves ≤ most_moves → Built states endings moves
+  built found shown all same states endings moves count_is ends_are moves_are few fits =
+      let counted : states ≡ length (pairs alg M N) = count_is ∙ ap length all in
+      let ended : (k : ℕ) → holds endings k ≡ get_or (map ends (pairs alg M N)) k false = λ k. ends_are k ∙ ap (λ xs. get_or (map ends xs) k false) (same ∙ all) in
+      let placed : moves ≡ (product alg M N way).moves = moves_are ∙ ap (flat_map (product_moves alg M N)) all in
+      record {
+        allowed = cond-false (ltb most_states (length (pairs alg M N))) _ _ (le-ltb most_states (length (pairs alg M N)) (omega arith))
+            ∙ cond-false (ltb most_moves (length (product alg M N way).moves)) _ _ (le-ltb most_moves (length (product alg M N way).moves) (omega (arith, ap length placed)));
+        is = λ i. record { count = counted i; endings = λ k. ended k i; moves = placed i };
+        some = omega (arith, ap length (pairs_searched alg laws M N rule.some clause.some rule.no_stray clause.no_stray).first.1);
+        below = λ k t. elim (cases_lt k states) [
+          | inl lt ↦ lt
+          | inr past ↦
+              absurd (both_ways (get_or (map ends (pairs alg M N)) k false)
+              (get_or_past (map ends (pairs alg M N)) k false (omega (arith, length-map (pairs alg M N) ends))) (sym (ended k) ∙ t))
+        ];
+        no_stray = ap (list_any (stray states)) placed ∙ ap (λ n. list_any (stray n) (product alg M N way).moves) counted
+            ∙ product_no_stray alg laws M N rule.some clause.some rule.no_stray clause.no_stray way;
+      }

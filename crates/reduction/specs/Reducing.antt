@@ -1,23 +1,15 @@
--- Reducing by marks: which states the marks tell apart, which of them are kept, and what is made of a machine and its table.
-use Rattle.std.specs.Prelude.{◌≡◌, ℕ, ◌<◌, ◌≤◌, Bool, cond, not, List, [], ◌∷◌, ◌++◌, map, length, drop, filter, nat_eq}
+-- Reducing by marks: which of the states are kept, and what is made of a machine and its table.
+use Rattle.std.specs.Prelude.{◌≡◌, ℕ, ◌≤◌, Bool, List, [], ◌∷◌, ◌++◌, map, length, drop, filter, if◌then◌else◌, nat_eq}
 use Rattle.guards.specs.Algebra.{Model}
-use Rattle.guards.specs.Lists.{Member, any, every}
+use Rattle.std.specs.List.{list_all, list_any}
 use Rattle.automata.specs.Limits.{most_states}
 use Rattle.automata.specs.Machine.{Machine}
 use Rattle.automata.specs.Reduction.{kept, redirected, reduced}
 use Rattle.automata.specs.declared.moves.Move.{Move}
-use Rattle.reduction.specs.Rounds.{has_mark}
-use Rattle.completion.specs.Values.{Within, machine}
-use Rattle.completion.specs.declared.counts.Counts.{Counts}
-use Rattle.completion.specs.declared.endings.Endings.{Endings}
-
--- two states with a mark that is not 0 are apart
-abbrev pub apart_by : List ℕ → ℕ → ℕ → Bool
-apart_by marks p q = not (has_mark marks 0 p q)
-
--- each of the list is below the limit
-abbrev pub AreStates : List ℕ → Type 0
-AreStates ks = (r : ℕ) → Member r ks → r < most_states
+use Rattle.tables.specs.Values.{Within, machine}
+use Rattle.tables.specs.declared.counts.Counts.{Counts}
+use Rattle.tables.specs.declared.endings.Endings.{Endings}
+use Rattle.reduction.specs.Marks.{apart_by}
 
 -- the states below the count that are kept by the marks
 abbrev pub kept_states : List ℕ → ℕ → List ℕ
@@ -25,16 +17,13 @@ kept_states marks count = kept (apart_by marks) count
 
 -- with the state, if it is apart from each of them
 abbrev pub kept_with : List ℕ → List ℕ → ℕ → List ℕ
-kept_with marks ks i = cond (every (λ r. apart_by marks r i) ks) (ks ++ (i ∷ [])) ks
+kept_with marks ks i = if list_all (λ r. apart_by marks r i) ks then ks ++ (i ∷ []) else ks
 
 -- the move goes from a state of the list
 abbrev pub goes_from : {G : Type 0} → List ℕ → Move G → Bool
-goes_from ks v = any (λ r. nat_eq r v.from) ks
+goes_from ks v = list_any (λ r. nat_eq r v.from) ks
 
--- what is made of a move: one between the classes of its states, if it goes from a kept state
-abbrev pub line_kept : {G : Type 0} → List ℕ → List ℕ → Move G → List (Move G)
-line_kept marks ks v = cond (goes_from ks v) (redirected (apart_by marks) ks v ∷ []) []
-
+-- the moves of the kept states, between the classes of their states
 abbrev pub moves_kept : {G : Type 0} → List ℕ → List ℕ → List (Move G) → List (Move G)
 moves_kept marks ks vs = map (redirected (apart_by marks) ks) (filter (goes_from ks) vs)
 

@@ -2,9 +2,13 @@
 // callers; the calls of the product, which ask none, stand in the crates above.
 #![tactic(auto)]
 
-pub mod pairing;
-pub mod placing_pairs;
+mod classes;
+mod marks;
+mod pair_moves;
+mod pairing;
 pub mod products;
+mod reached;
 pub mod reducing;
-pub mod rounds;
+mod rounds;
+mod steps;
 pub mod words;

@@ -1,152 +1,108 @@
-// Rounds of separation: marks that tell in which round each two states are separated.
-ghost use Rattle.std.specs.Prelude.{◌≡◌, ℕ, ◌<◌, ◌≤◌, false, length};
-ghost use Rattle.guards.specs.Lists.{any};
+// Rounds of separation: in which round each two states of a machine are separated.
+ghost use Rattle.std.specs.Prelude.{◌≡◌, ◌+◌, ◌<◌, ◌≤◌, false, length};
+ghost use Rattle.std.specs.List.{list_any};
 ghost use Rattle.automata.specs.Limits.{most_states, most_rounds, mark_bytes};
 ghost use Rattle.automata.specs.Rounds.{fit, some_fit};
-ghost use Rattle.automata.specs.Running.{stray};
-ghost use Rattle.completion.specs.Endings.{holds};
-ghost use Rattle.reduction.specs.Rounds.{pair_place, pair_mark, first_mark, separates, machine_of, RoundMarks, NextBy};
+ghost use Rattle.tables.specs.Machines.{machine_of};
+ghost use Rattle.reduction.specs.Marks.{in_round};
+ghost use Rattle.reduction.specs.Rounds.{separates, NextMarks, RoundMarks};
 
-use automata::limits::{MARKS, STATES, WORD_ENTRIES};
+use crate::marks::PairMarks;
+use automata::limits::WORD_ENTRIES;
 use automata::moves::Move;
-use completion::endings::Endings;
 use guards::algebra::Algebra;
+use tables::machines::Machine;
 
-// Where the mark of two states stands.
-pub fn pair_place(p: usize, q: usize) -> usize
-    requires { (p < most_states) × (q < most_states) }
-    ensures is { result ≡ pair_place p q }
-    ensures within { result < mark_bytes }
-{
-    p * STATES + q
+// What makes a round of the one before.
+#[derive(Drop)]
+struct NextRound<'a, A: Algebra> {
+    alg: &'a A,
+    machine: &'a Machine<'a, A::Guard>,
+    // The number of the round before.
+    round: usize,
+    ghost small: { round + 1 < most_rounds },
 }
 
-// The mark of two states in round 0: 1 where just one is an ending.
-fn first_mark(endings: Endings, p: usize, q: usize) -> u8
-    ensures { result ≡ first_mark (holds endings) p q }
-{
-    if endings.contains(p) != endings.contains(q) {
-        1
-    } else {
-        0
+impl<'a, A: Algebra> NextRound<'a, A> {
+    // Whether the two moves separate the states that they go from.
+    fn separates(&self, marks: &PairMarks, first: &Move<A::Guard>, second: &Move<A::Guard>) -> bool
+        ensures { let s = self.now in result ≡ separates (A.model s.alg.now) marks.now s.round first.now second.now }
+    {
+        first.from != second.from
+            && !marks.is_apart(first.from, second.from)
+            && marks.round(first.to, second.to) == Some(self.round)
+            && self
+                .alg
+                .sample(self.alg.meet(first.guard, second.guard))
+                .is_some()
+    }
+
+    // Marks the states that the two moves go from, where the moves separate them; whether they do.
+    fn mark_pair(
+        &self,
+        marks: &mut PairMarks,
+        first: &Move<A::Guard>,
+        second: &Move<A::Guard>,
+    ) -> bool
+        requires states { (first.now.from < most_states) × (second.now.from < most_states) }
+        ensures next { let s = self.now in let fits = fit (A.model s.alg.now) (in_round marks.old s.round) in
+            NextMarks s.round (λ p q. fits p q first.now second.now) marks.old marks.new }
+        ensures same { result ≡ false → marks.new ≡ marks.old }
+    {
+        let found = self.separates(marks, first, second);
+        if found {
+            marks.set(first.from, second.from, self.round + 1);
+        }
+        found
+    }
+
+    // Marks by the first move with each move of the machine; whether it marks any states.
+    fn mark_by(&self, marks: &mut PairMarks, first: &Move<A::Guard>) -> bool
+        requires states { first.now.from < most_states }
+        ensures next { let s = self.now in let fits = fit (A.model s.alg.now) (in_round marks.old s.round) in
+            NextMarks s.round (λ p q. list_any (fits p q first.now) s.machine.now.moves.now) marks.old marks.new }
+        ensures same { result ≡ false → marks.new ≡ marks.old }
+    {
+        let mut found = false;
+        for second in self.machine.moves {
+            found |= self.mark_pair(marks, first, second);
+        }
+        found
+    }
+
+    // Makes the round; whether it separates any states.
+    fn mark(&self, marks: &mut PairMarks) -> bool
+        ensures next { let s = self.now in let found = some_fit (A.model s.alg.now) s.machine.now.moves.now (in_round marks.old s.round) in
+            NextMarks s.round found marks.old marks.new }
+        ensures same { result ≡ false → marks.new ≡ marks.old }
+    {
+        let mut found = false;
+        for first in self.machine.moves {
+            found |= self.mark_by(marks, first);
+        }
+        found
     }
 }
 
-// Marks each two states as round 0 separates them.
-fn mark_endings(endings: Endings, marks: &mut [u8])
-    requires { mark_bytes ≤ length marks.old }
-    ensures { (p q : ℕ) → p < most_states → q < most_states → pair_mark marks.new p q ≡ first_mark (holds endings) p q }
-{
-    for place in 0..MARKS {
-        marks[place] = first_mark(endings, place / STATES, place % STATES);
-    }
-}
-
-// Whether the two moves separate the states that they go from, in the round after the one of the mark.
-fn separates<A: Algebra>(
+// Marks the round in which each two states of the machine are separated.
+pub fn mark_rounds<'m, A: Algebra>(
     alg: &A,
-    first: &Move<A::Guard>,
-    second: &Move<A::Guard>,
-    states: usize,
-    marks: &[u8],
-    mark: u8,
-) -> bool
-    requires no_stray { (stray states first.now ≡ false) × (stray states second.now ≡ false) }
-    requires few { states ≤ most_states }
-    requires bytes { mark_bytes ≤ length marks.now }
-    ensures { result ≡ separates (A.model alg.now) marks.now mark first.now second.now }
+    machine: &Machine<A::Guard>,
+    bytes: &'m mut [u8],
+) -> PairMarks<'m>
+    requires { mark_bytes ≤ length bytes.old }
+    ensures { RoundMarks (A.model alg.now) (machine_of machine.now) most_rounds result }
 {
-    first.from != second.from
-        && marks[pair_place(first.from, second.from)] == 0
-        && marks[pair_place(first.to, second.to)] == mark
-        && alg.sample(alg.meet(first.guard, second.guard)).is_some()
-}
-
-// Gives the states that the two moves go from the next mark, where the moves separate them; whether they do.
-fn mark_pair<A: Algebra>(
-    alg: &A,
-    first: &Move<A::Guard>,
-    second: &Move<A::Guard>,
-    states: usize,
-    marks: &mut [u8],
-    mark: u8,
-) -> bool
-    requires no_stray { (stray states first.now ≡ false) × (stray states second.now ≡ false) }
-    requires few { states ≤ most_states }
-    requires bytes { mark_bytes ≤ length marks.old }
-    requires small { mark < most_rounds }
-    ensures next { NextBy states mark (λ R p q. fit (A.model alg.now) R p q first.now second.now) marks.old marks.new }
-    ensures same { result ≡ false → marks.new ≡ marks.old }
-{
-    let found = separates(alg, first, second, states, marks, mark);
-    if found {
-        marks[pair_place(first.from, second.from)] = mark + 1;
-    }
-    found
-}
-
-// Marks by the first move with each of the moves; whether it marks any states.
-fn mark_by<A: Algebra>(
-    alg: &A,
-    first: &Move<A::Guard>,
-    moves: &[Move<A::Guard>],
-    states: usize,
-    marks: &mut [u8],
-    mark: u8,
-) -> bool
-    requires no_stray { (stray states first.now ≡ false) × (any (stray states) moves.now ≡ false) }
-    requires few { states ≤ most_states }
-    requires bytes { mark_bytes ≤ length marks.old }
-    requires small { (0 < mark) × (mark < most_rounds) }
-    ensures next { NextBy states mark (λ R p q. any (fit (A.model alg.now) R p q first.now) moves.now) marks.old marks.new }
-    ensures same { result ≡ false → marks.new ≡ marks.old }
-{
-    let mut found = false;
-    for second in moves {
-        found |= mark_pair(alg, first, second, states, marks, mark);
-    }
-    found
-}
-
-// Makes the round after the one of the mark; whether it separates any states.
-fn next_round<A: Algebra>(
-    alg: &A,
-    moves: &[Move<A::Guard>],
-    states: usize,
-    marks: &mut [u8],
-    mark: u8,
-) -> bool
-    requires no_stray { any (stray states) moves.now ≡ false }
-    requires few { states ≤ most_states }
-    requires bytes { mark_bytes ≤ length marks.old }
-    requires small { (0 < mark) × (mark < most_rounds) }
-    ensures next { NextBy states mark (some_fit (A.model alg.now) moves.now) marks.old marks.new }
-    ensures same { result ≡ false → marks.new ≡ marks.old }
-{
-    let mut found = false;
-    for first in moves {
-        found |= mark_by(alg, first, moves, states, marks, mark);
-    }
-    found
-}
-
-// Marks each two states with one more than the round in which they are separated, and with 0 where no round separates them.
-pub fn mark_rounds<A: Algebra>(
-    alg: &A,
-    endings: Endings,
-    moves: &[Move<A::Guard>],
-    states: usize,
-    marks: &mut [u8],
-)
-    requires no_stray { any (stray states) moves.now ≡ false }
-    requires few { states ≤ most_states }
-    requires bytes { mark_bytes ≤ length marks.old }
-    ensures { RoundMarks (A.model alg.now) (machine_of states (holds endings) moves.now) most_rounds marks.new }
-{
-    mark_endings(endings, marks);
-    for round in 1..WORD_ENTRIES + 1 {
-        if !next_round(alg, moves, states, marks, round as u8) {
-            return;
+    let mut marks = PairMarks::new(machine.endings, bytes);
+    for round in 0..WORD_ENTRIES {
+        let next = NextRound {
+            alg: &*alg,
+            machine: &*machine,
+            round,
+        };
+        if !next.mark(&mut marks) {
+            return marks;
         }
     }
+    marks
 }

@@ -5,20 +5,20 @@ ghost use Rattle.std.specs.Prelude.{◌≤◌, length, IfOk};
 
 use automata::limits::MOVES;
 use automata::moves::Move;
-use automata::refusals::Refusal;
+use automata::refusals::{Refusal, Refused};
 use guards::activity::{ACTIVITY, ActivityEntry, ActivityGuard};
 use machines::clauses::Rule;
-use orders::hand::Hand;
 use orders::printout::Line;
 use orders::records::{INPUT_BYTES, INPUT_RECORDS, RECORD_BYTES};
-use orders::steps::{Stepped, UNWRITTEN, step};
+use orders::steps::{Reader, UNWRITTEN};
 use std::io;
 use std::io::Read;
 
 // One byte more than an input may have, so that a longer one shows.
 const BUFFER_BYTES: usize = INPUT_BYTES + 1;
 
-// Fills the buffer from standard input as far as there is input; gives how many bytes came.
+// Fills the buffer from standard input as far as there is input; gives how many bytes came. The loop counts them, since no method
+// fills a buffer as far as input goes, and a list that grows would need a heap.
 fn read_input(rt: &HostRuntime, buffer: &mut [u8]) -> io::Result<usize>
     ensures { IfOk result (λ n. n ≤ length buffer.new) }
 {
@@ -36,26 +36,23 @@ fn read_input(rt: &HostRuntime, buffer: &mut [u8]) -> io::Result<usize>
 
 // Steps over the records in order and gives the rule that stands at last. Notes for each record why it was refused, if it
 // was; there is a place for each.
-fn run(
+fn play(
     rule: Rule,
     clause_table: &mut [Move<ActivityGuard>],
     input: &[u8],
     refusals: &mut [Option<Refusal<ActivityEntry>>],
 ) -> Rule {
-    let mut hand = Hand::Nothing;
-    let mut standing = rule;
+    let mut reader = Reader::new(rule);
     for (bytes, noted) in input.chunks(RECORD_BYTES).zip(refusals.iter_mut()) {
-        let Stepped {
-            hand: next,
-            rule,
-            refusal,
-        } = step(hand, standing, clause_table, bytes);
-        hand = next;
-        standing = rule;
-        *noted = refusal;
+        reader = match reader.step(clause_table, bytes) {
+            Ok(next) => next,
+            Err(Refused { value, why }) => {
+                *noted = Some(why);
+                value
+            }
+        };
     }
-    hand.discard();
-    standing
+    reader.end()
 }
 
 // Prints a line for each refusal.
@@ -68,17 +65,33 @@ fn print_refusals(rt: &HostRuntime, refusals: &[Option<Refusal<ActivityEntry>>])
     Ok(())
 }
 
-// Prints the rule: its counts, its states and its counted moves.
-fn print_rule(rt: &HostRuntime, rule: &Rule, table: &[Move<ActivityGuard>]) -> io::Result<()> {
-    rt.println(Line::counts(rule))?;
-    let counts = rule.counts();
-    for state in 0..counts.states {
+// Prints a line for each state.
+fn print_states(rt: &HostRuntime, rule: &Rule) -> io::Result<()> {
+    for state in 0..rule.counts().states {
         rt.println(Line::state(rule, state))?;
     }
-    for line in table.iter().take(counts.moves) {
+    Ok(())
+}
+
+// Prints a line for each counted move.
+fn print_moves(rt: &HostRuntime, rule: &Rule, table: &[Move<ActivityGuard>]) -> io::Result<()> {
+    for line in table.iter().take(rule.counts().moves) {
         rt.println(Line::Counted(*line))?;
     }
     Ok(())
+}
+
+// Prints the refusals and then the rule: its counts, its states and its counted moves.
+fn print_sheet(
+    rt: &HostRuntime,
+    refusals: &[Option<Refusal<ActivityEntry>>],
+    rule: &Rule,
+    table: &[Move<ActivityGuard>],
+) -> io::Result<()> {
+    print_refusals(rt, refusals)?;
+    rt.println(Line::counts(rule))?;
+    print_states(rt, rule)?;
+    print_moves(rt, rule, table)
 }
 
 // Applies the records to a new rule, then prints the refusals and the rule that stands.
@@ -90,11 +103,8 @@ fn work(
 ) -> io::Result<()> {
     let mut clause_table = [UNWRITTEN; MOVES];
     let mut refusals = [None; INPUT_RECORDS];
-    let rule = run(rule, &mut clause_table, input, &mut refusals);
-    let mut printed = print_refusals(rt, &refusals);
-    if printed.is_ok() {
-        printed = print_rule(rt, &rule, table);
-    }
+    let rule = play(rule, &mut clause_table, input, &mut refusals);
+    let printed = print_sheet(rt, &refusals, &rule, table);
     rule.end(&ACTIVITY);
     printed
 }
@@ -108,6 +118,6 @@ fn main(rt: HostRuntime) -> io::Result<()> {
     let mut table = [UNWRITTEN; MOVES];
     match Rule::new_sheet(&ACTIVITY, &mut table) {
         Ok(rule) => work(&rt, rule, &table, &buffer[0..filled]),
-        Err(_) => unreachable(),
+        Err(_) => unreachable!(),
     }
 }

@@ -3,13 +3,14 @@ use crate::clauses::{GARBAGE, whole_move};
 use automata::limits::{MARKS, MOVES, PARTS};
 use automata::moves::Move;
 use automata::refusals::{Refusal, Refused};
-use completion::counts::Counts;
-use completion::endings::Endings;
-use guards::minutes::{MinuteRow, Minutes};
+use guards::minutes::{MINUTES, MinuteRow};
 use machines::clauses::OpenClause;
+use machines::work::WorkTables;
 use std::process::Abort;
+use tables::counts::Counts;
+use tables::endings::Endings;
 
-// A state that no clause has: marking it leaves a clause without endings.
+// A state that no clause has: marking it leaves a clause without endings, and is itself a case of a refused call.
 pub(crate) const NO_STATE: usize = 64;
 
 pub(crate) fn line(from: usize, first: u16, last: u16, to: usize) -> Move<MinuteRow> {
@@ -22,25 +23,16 @@ pub(crate) fn line(from: usize, first: u16, last: u16, to: usize) -> Move<Minute
 
 // A clause of at most 63 states, with that ending if it has the state.
 fn blank_clause(states: usize, ending: usize) -> OpenClause {
-    let mut clause = OpenClause::open(&Minutes);
+    let mut clause = OpenClause::open(&MINUTES);
     for _ in 1..states {
-        clause = match clause.add(&Minutes) {
-            Ok(added) => {
-                let (clause, _) = added;
-                clause
-            }
-            Err(back) => {
-                let Refused { value, why: _ } = back;
-                value
-            }
+        clause = match clause.add(&MINUTES) {
+            Ok((clause, _)) => clause,
+            Err(Refused { value, why: _ }) => value,
         };
     }
-    match clause.mark(&Minutes, ending) {
+    match clause.mark(&MINUTES, ending) {
         Ok(clause) => clause,
-        Err(back) => {
-            let Refused { value, why: _ } = back;
-            value
-        }
+        Err(Refused { value, why: _ }) => value,
     }
 }
 
@@ -53,18 +45,16 @@ pub(crate) fn clause_of(
 ) -> OpenClause {
     let mut clause = blank_clause(states, ending);
     for line in lines {
-        clause = match clause.write(&Minutes, table, *line) {
+        clause = match clause.write(&MINUTES, table, *line) {
             Ok(clause) => clause,
-            Err(back) => {
-                let Refused { value, why: _ } = back;
-                value
-            }
+            Err(Refused { value, why: _ }) => value,
         };
     }
     clause
 }
 
-// What a check leaves: the counts and endings of the clause it hands out, and why it is refused.
+// What a check leaves: the counts and endings of the clause it hands out, and why it is refused. A refused check hands a clause out
+// too, and the tests look at both.
 #[derive(Clone, Copy)]
 pub(crate) struct Left {
     pub(crate) counts: Counts,
@@ -75,29 +65,25 @@ pub(crate) struct Left {
 pub(crate) fn check_in(
     clause: OpenClause,
     table: &mut [Move<MinuteRow>],
-    spare: &mut [Move<MinuteRow>],
-    marks: &mut [u8],
-    parts: &mut [MinuteRow],
-    others: &mut [MinuteRow],
+    work: &mut WorkTables<MinuteRow>,
 ) -> Left {
-    match clause.check(&Minutes, table, spare, marks, parts, others) {
+    match clause.check(&MINUTES, table, work) {
         Ok(clause) => {
             let left = Left {
                 counts: clause.counts(),
                 endings: clause.endings(),
                 refusal: None,
             };
-            clause.discard(&Minutes);
+            clause.discard(&MINUTES);
             left
         }
-        Err(back) => {
-            let Refused { value, why } = back;
+        Err(Refused { value, why }) => {
             let left = Left {
                 counts: value.counts(),
                 endings: value.endings(),
                 refusal: Some(why),
             };
-            value.discard(&Minutes);
+            value.discard(&MINUTES);
             left
         }
     }
@@ -109,14 +95,14 @@ fn check_it(clause: OpenClause, table: &mut [Move<MinuteRow>; MOVES]) -> Left {
     let mut marks = [7u8; MARKS];
     let mut parts = [GARBAGE.guard; PARTS];
     let mut others = [GARBAGE.guard; PARTS];
-    check_in(
-        clause,
-        table,
-        &mut spare,
-        &mut marks,
-        &mut parts,
-        &mut others,
-    )
+    let mut work = WorkTables {
+        spare: &mut spare,
+        marks: &mut marks,
+        parts: &mut parts,
+        others: &mut others,
+        pairs: &mut [],
+    };
+    check_in(clause, table, &mut work)
 }
 
 // The clause of the states, the ending and the lines is made into that of the others; further places stay.

@@ -4,10 +4,11 @@ use crate::clauses::{GARBAGE, whole_move};
 use automata::limits::{MARKS, MOVES, PARTS};
 use automata::moves::Move;
 use automata::refusals::Refusal;
-use completion::counts::Counts;
-use guards::minutes::{MinuteRow, Minutes};
+use guards::minutes::{MINUTES, MinuteRow};
 use machines::clauses::OpenClause;
+use machines::work::WorkTables;
 use std::process::Abort;
+use tables::counts::Counts;
 
 // Each line leads from the state of its place to the next.
 fn row(lines: &mut [Move<MinuteRow>]) {
@@ -40,12 +41,12 @@ fn most_moves(rt: HostRuntime) {
     let mut checked = written;
     checked[MOVES - 2] = line(0, 1439, 1439, 1);
     checked[MOVES - 1] = whole_move(1, 1);
-    makes(&rt, (1, 0, &written[0..MOVES - 2]), (2, 0, &checked));
-    refuses(&rt, 1, &written[0..MOVES - 1], &[], Refusal::TooLarge);
+    makes(&rt, (1, 0, &written[..MOVES - 2]), (2, 0, &checked));
+    refuses(&rt, 1, &written[..MOVES - 1], &[], Refusal::TooLarge);
     refuses(&rt, 1, &written, &[], Refusal::TooLarge);
 }
 
-// Moves of single minutes, each two after the one before.
+// Moves of single minutes, each two after the one before; minutes step, and places do not.
 fn every_second(lines: &mut [Move<MinuteRow>], from: usize, first: u16, to: usize) {
     let mut minute = first;
     for place in lines.iter_mut() {
@@ -101,20 +102,27 @@ fn check_cut(rt: &impl Abort, table: &mut [Move<MinuteRow>], lengths: [usize; 5]
     ] = lengths;
     let mut spare = [GARBAGE; MOVES + 1];
     assert!(rt; spare_length <= spare.len());
-    let spare = &mut spare[0..spare_length];
+    let spare = &mut spare[..spare_length];
     let mut marks = [7u8; MARKS + 1];
     assert!(rt; marks_length <= marks.len());
-    let marks = &mut marks[0..marks_length];
+    let marks = &mut marks[..marks_length];
     let mut parts = [GARBAGE.guard; PARTS + 1];
     assert!(rt; parts_length <= parts.len());
-    let parts = &mut parts[0..parts_length];
+    let parts = &mut parts[..parts_length];
     let mut others = [GARBAGE.guard; PARTS + 1];
     assert!(rt; others_length <= others.len());
-    let others = &mut others[0..others_length];
+    let others = &mut others[..others_length];
     assert!(rt; table_length <= table.len());
-    let table = &mut table[0..table_length];
-    let clause = OpenClause::open(&Minutes);
-    check_in(clause, table, spare, marks, parts, others)
+    let table = &mut table[..table_length];
+    let clause = OpenClause::open(&MINUTES);
+    let mut work = WorkTables {
+        spare,
+        marks,
+        parts,
+        others,
+        pairs: &mut [],
+    };
+    check_in(clause, table, &mut work)
 }
 
 // The check passes, or is refused as too short and leaves clause and table.
@@ -140,6 +148,7 @@ fn sizes_fit(rt: &impl Abort, lengths: [usize; 5], fit: bool) {
 fn least_sizes(rt: HostRuntime) {
     let exact = [MOVES, MOVES, MARKS, PARTS, PARTS];
     sizes_fit(&rt, exact, true);
+    // Each size in turn is one place of a copy.
     for place in 0..5 {
         let mut lengths = exact;
         lengths[place] = exact[place] + 1;

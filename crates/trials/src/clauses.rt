@@ -2,10 +2,10 @@
 use automata::limits::{MOVES, WRITTEN_STATES};
 use automata::moves::Move;
 use automata::refusals::{Refusal, Refused};
-use completion::counts::Counts;
 use guards::algebra::Algebra;
-use guards::minutes::{MinuteRow, Minutes};
+use guards::minutes::{MINUTES, MinuteRow};
 use machines::clauses::{OpenClause, Rule};
+use tables::counts::Counts;
 
 // A move of numbers that make no guard, between states that no sheet has.
 pub(crate) const GARBAGE: Move<MinuteRow> = Move {
@@ -17,22 +17,18 @@ pub(crate) const GARBAGE: Move<MinuteRow> = Move {
 pub(crate) fn whole_move(from: usize, to: usize) -> Move<MinuteRow> {
     Move {
         from,
-        guard: Minutes.whole(),
+        guard: MINUTES.whole(),
         to,
     }
 }
 
-// The counts of a new sheet and whether its states 0 and 1 are endings, or the refusal's number.
-fn try_sheet(table: &mut [Move<MinuteRow>]) -> Result<(Counts, bool, bool), u8> {
-    match Rule::new_sheet(&Minutes, table) {
-        Ok(rule) => {
-            let counts = rule.counts();
-            let endings = rule.endings();
-            rule.end(&Minutes);
-            Ok((counts, endings.contains(0), endings.contains(1)))
-        }
-        Err(why) => Err(why.number()),
-    }
+// The counts of a new sheet and whether its states 0 and 1 are endings.
+fn try_sheet(table: &mut [Move<MinuteRow>]) -> Result<(Counts, bool, bool), Refusal<u16>> {
+    let rule = Rule::new_sheet(&MINUTES, table)?;
+    let counts = rule.counts();
+    let endings = rule.endings();
+    rule.end(&MINUTES);
+    Ok((counts, endings.contains(0), endings.contains(1)))
 }
 
 // A new sheet asks for 1,024 places, writes the first and leaves the others.
@@ -43,32 +39,28 @@ fn new_sheet(rt: HostRuntime) {
         moves: 1,
     };
     for (length, wanted, first) in [
-        (0, Err(1), GARBAGE),
-        (MOVES - 1, Err(1), GARBAGE),
+        (0, Err(Refusal::TooShort), GARBAGE),
+        (MOVES - 1, Err(Refusal::TooShort), GARBAGE),
         (MOVES, Ok((fresh, true, false)), whole_move(0, 0)),
         (MOVES + 1, Ok((fresh, true, false)), whole_move(0, 0)),
     ] {
         let mut table = [GARBAGE; MOVES + 1];
         assert!(rt; length <= table.len());
-        assert_eq!(rt; try_sheet(&mut table[0..length]), wanted);
+        assert_eq!(rt; try_sheet(&mut table[..length]), wanted);
         assert_eq!(rt; table[0], first);
         assert_eq!(rt; table[1], GARBAGE);
     }
 }
 
-// A clause of 63 states, and how many of the states asked for were refused with 2.
+// A clause of 63 states, and how many of the states asked for were refused as too many.
 fn full_clause() -> (OpenClause, usize) {
-    let mut clause = OpenClause::open(&Minutes);
+    let mut clause = OpenClause::open(&MINUTES);
     let mut refused = 0usize;
     for _ in 1..70 {
-        clause = match clause.add(&Minutes) {
-            Ok(added) => {
-                let (clause, _) = added;
-                clause
-            }
-            Err(back) => {
-                let Refused { value, why } = back;
-                if why.number() == 2 {
+        clause = match clause.add(&MINUTES) {
+            Ok((clause, _)) => clause,
+            Err(Refused { value, why }) => {
+                if why == Refusal::TooManyStates {
                     refused = refused.saturating_add(1);
                 }
                 value
@@ -82,7 +74,7 @@ fn full_clause() -> (OpenClause, usize) {
 fn adding(rt: HostRuntime) {
     let (clause, refused) = full_clause();
     let counts = clause.counts();
-    clause.discard(&Minutes);
+    clause.discard(&MINUTES);
     assert_eq!(rt; counts.states, WRITTEN_STATES);
     assert_eq!(rt; refused, 7);
 }
@@ -90,22 +82,20 @@ fn adding(rt: HostRuntime) {
 // Whether the state is an ending after it was marked twice, or what the refusal tells.
 fn mark_twice(state: usize) -> Result<bool, Refusal<u16>> {
     let (clause, _) = full_clause();
-    match clause.mark(&Minutes, state) {
-        Ok(clause) => match clause.mark(&Minutes, state) {
+    match clause.mark(&MINUTES, state) {
+        Ok(clause) => match clause.mark(&MINUTES, state) {
             Ok(clause) => {
                 let endings = clause.endings();
-                clause.discard(&Minutes);
+                clause.discard(&MINUTES);
                 Ok(endings.contains(state))
             }
-            Err(back) => {
-                let Refused { value, why } = back;
-                value.discard(&Minutes);
+            Err(Refused { value, why }) => {
+                value.discard(&MINUTES);
                 Err(why)
             }
         },
-        Err(back) => {
-            let Refused { value, why } = back;
-            value.discard(&Minutes);
+        Err(Refused { value, why }) => {
+            value.discard(&MINUTES);
             Err(why)
         }
     }
@@ -125,15 +115,14 @@ fn marking(rt: HostRuntime) {
 
 // The moves of a clause of one state after a move was written, or what the refusal tells.
 fn write_one(table: &mut [Move<MinuteRow>], line: Move<MinuteRow>) -> Result<usize, Refusal<u16>> {
-    match OpenClause::open(&Minutes).write(&Minutes, table, line) {
+    match OpenClause::open(&MINUTES).write(&MINUTES, table, line) {
         Ok(clause) => {
             let counts = clause.counts();
-            clause.discard(&Minutes);
+            clause.discard(&MINUTES);
             Ok(counts.moves)
         }
-        Err(back) => {
-            let Refused { value, why } = back;
-            value.discard(&Minutes);
+        Err(Refused { value, why }) => {
+            value.discard(&MINUTES);
             Err(why)
         }
     }
@@ -162,22 +151,21 @@ fn writing(rt: HostRuntime) {
     ] {
         let mut table = [GARBAGE; MOVES + 1];
         assert!(rt; length <= table.len());
-        assert_eq!(rt; write_one(&mut table[0..length], line), wanted);
+        assert_eq!(rt; write_one(&mut table[..length], line), wanted);
         assert_eq!(rt; table[0], first);
         assert_eq!(rt; table[1], GARBAGE);
     }
 }
 
-// How many of 1,025 moves were written, and how many refused with 4.
+// How many of 1,025 moves were written, and how many refused by the full table.
 fn fill(table: &mut [Move<MinuteRow>]) -> (usize, usize) {
-    let mut clause = OpenClause::open(&Minutes);
+    let mut clause = OpenClause::open(&MINUTES);
     let mut refused = 0usize;
     for _ in 0..MOVES + 1 {
-        clause = match clause.write(&Minutes, table, whole_move(0, 0)) {
+        clause = match clause.write(&MINUTES, table, whole_move(0, 0)) {
             Ok(clause) => clause,
-            Err(back) => {
-                let Refused { value, why } = back;
-                if why.number() == 4 {
+            Err(Refused { value, why }) => {
+                if why == Refusal::TableFull {
                     refused = refused.saturating_add(1);
                 }
                 value
@@ -185,7 +173,7 @@ fn fill(table: &mut [Move<MinuteRow>]) -> (usize, usize) {
         };
     }
     let counts = clause.counts();
-    clause.discard(&Minutes);
+    clause.discard(&MINUTES);
     (counts.moves, refused)
 }
 

@@ -1,6 +1,6 @@
 // Flags at the edges, and rows that make no guard.
 use guards::algebra::Algebra;
-use guards::flags::{FlagEntry, FlagGuard, FlagRow, Flags, NO_FLAGS};
+use guards::flags::{FLAGS, FlagEntry, FlagPattern, FlagRow, NO_FLAGS};
 use guards::malformed::Malformed;
 
 const fn row(care: u8, value: u8) -> FlagRow {
@@ -15,10 +15,7 @@ fn entries(rt: HostRuntime) {
         (32, Err(Malformed::Flags)),
         (255, Err(Malformed::Flags)),
     ] {
-        let made = match FlagEntry::new(number) {
-            Ok(entry) => Ok(entry.number()),
-            Err(why) => Err(why),
-        };
+        let made = FlagEntry::try_from(number).map(u8::from);
         assert_eq!(rt; made, wanted);
     }
 }
@@ -42,13 +39,10 @@ fn guards(rt: HostRuntime) {
         } else {
             Err(Malformed::Flags)
         };
-        let made = match FlagGuard::new(row(care, value)) {
-            Ok(guard) => Ok(guard.row()),
-            Err(why) => Err(why),
-        };
+        let made = FlagPattern::try_from(row(care, value)).map(FlagRow::from);
         assert_eq!(rt; made, wanted);
     }
-    assert_eq!(rt; FlagGuard::Empty.row(), NO_FLAGS);
+    assert_eq!(rt; FlagRow::from(None), NO_FLAGS);
 }
 
 #[test]
@@ -64,7 +58,7 @@ fn admission(rt: HostRuntime) {
         (NO_FLAGS, 1, false),
         (row(32, 0), 0, false),
     ] {
-        assert_eq!(rt; Flags.admits(guard, flags), wanted);
+        assert_eq!(rt; FLAGS.admits(guard, flags), wanted);
     }
 }
 
@@ -77,14 +71,14 @@ fn meets_and_samples(rt: HostRuntime) {
         (row(0, 1), row(0, 0), NO_FLAGS, None),
         (row(0, 0), row(200, 0), NO_FLAGS, None),
     ] {
-        assert_eq!(rt; Flags.meet(a, b), met);
-        assert_eq!(rt; Flags.sample(met), sample);
+        assert_eq!(rt; FLAGS.meet(a, b), met);
+        assert_eq!(rt; FLAGS.sample(met), sample);
     }
 }
 
 #[test]
 fn rests(rt: HostRuntime) {
-    let whole = Flags.whole();
+    let whole = FLAGS.whole();
     for (a, b, parts) in [
         (whole, row(3, 3), [Some(row(2, 0)), Some(row(3, 2)), None]),
         (
@@ -99,8 +93,8 @@ fn rests(rt: HostRuntime) {
         (row(64, 0), row(3, 3), [None, None, None]),
     ] {
         for (number, part) in parts.iter().enumerate() {
-            assert_eq!(rt; Flags.rest(a, b, number), *part);
+            assert_eq!(rt; FLAGS.rest(a, b, number), *part);
         }
-        assert_eq!(rt; Flags.rest(a, b, usize::MAX), None);
+        assert_eq!(rt; FLAGS.rest(a, b, usize::MAX), None);
     }
 }

@@ -6,46 +6,36 @@ use automata::limits::{MARKS, MOVES, PAIRS, PARTS};
 use automata::moves::Move;
 use automata::pairs::StatePair;
 use automata::refusals::{Refusal, Refused};
-use completion::counts::Counts;
-use guards::minutes::{MinuteRow, Minutes};
+use guards::minutes::{MINUTES, MinuteRow};
 use machines::clauses::{CheckedClause, Rule, Unjoined};
+use machines::work::WorkTables;
+use tables::counts::Counts;
 
 type Table = [Move<MinuteRow>; MOVES];
 
-// The rule of a new sheet.
+// The rule of a new sheet, over the tables of these tests; other tests have tables of other lengths and kinds.
 fn new_rule(table: &mut Table) -> Rule {
-    match Rule::new_sheet(&Minutes, table) {
+    match Rule::new_sheet(&MINUTES, table) {
         Ok(rule) => rule,
-        Err(_) => unreachable(),
+        Err(_) => unreachable!(),
     }
 }
 
-// Joins a checked clause to the rule; the rule as it is then, and why it was refused, if it was.
+// Joins a checked clause to the rule; the rule as it is then, and why it was refused, if it was. The tests look at both, here and
+// below, and each argument at its own place.
 fn join_checked(
     rule: Rule,
     table: &mut Table,
     way: JoinBy,
     clause: CheckedClause,
     clause_table: &Table,
+    work: &mut WorkTables<MinuteRow>,
 ) -> (Rule, Option<Refusal<u16>>) {
-    let mut spare = [whole_move(7, 7); MOVES];
-    let mut marks = [7u8; MARKS];
-    let mut pairs = [StatePair { rule: 7, clause: 7 }; PAIRS];
-    match rule.join(
-        &Minutes,
-        clause,
-        way,
-        table,
-        clause_table,
-        &mut spare,
-        &mut marks,
-        &mut pairs,
-    ) {
+    match rule.join(&MINUTES, clause, way, table, clause_table, work) {
         Ok(rule) => (rule, None),
-        Err(back) => {
-            let Refused { value, why } = back;
+        Err(Refused { value, why }) => {
             let Unjoined { rule, clause } = value;
-            clause.discard(&Minutes);
+            clause.discard(&MINUTES);
             (rule, Some(why))
         }
     }
@@ -65,19 +55,19 @@ fn join_lines(
     let mut marks = [7u8; MARKS];
     let mut parts = [GARBAGE.guard; PARTS];
     let mut others = [GARBAGE.guard; PARTS];
+    let mut pairs = [StatePair { rule: 7, clause: 7 }; PAIRS];
+    let mut work = WorkTables {
+        spare: &mut spare,
+        marks: &mut marks,
+        parts: &mut parts,
+        others: &mut others,
+        pairs: &mut pairs,
+    };
     let clause = clause_of(states, ending, &mut clause_table, lines);
-    match clause.check(
-        &Minutes,
-        &mut clause_table,
-        &mut spare,
-        &mut marks,
-        &mut parts,
-        &mut others,
-    ) {
-        Ok(clause) => join_checked(rule, table, way, clause, &clause_table),
-        Err(back) => {
-            let Refused { value, why } = back;
-            value.discard(&Minutes);
+    match clause.check(&MINUTES, &mut clause_table, &mut work) {
+        Ok(clause) => join_checked(rule, table, way, clause, &clause_table, &mut work),
+        Err(Refused { value, why }) => {
+            value.discard(&MINUTES);
             (rule, Some(why))
         }
     }
@@ -95,7 +85,7 @@ fn join_lengths(
         line.from = place;
         line.to = if place + 1 < period { place + 1 } else { 0 };
     }
-    join_lines(rule, table, way, period, 0, &lines[0..period.min(9)])
+    join_lines(rule, table, way, period, 0, &lines[..period.min(9)])
 }
 
 #[test]
@@ -109,7 +99,7 @@ fn day_lengths(rt: HostRuntime) {
         let before = table;
         let (rule, why) = join_lengths(rule, &mut table, JoinBy::Both, second);
         let counts = rule.counts();
-        rule.end(&Minutes);
+        rule.end(&MINUTES);
         assert_eq!(rt; none, None);
         assert_eq!(rt; why, refusal);
         assert_eq!(rt;
@@ -141,12 +131,12 @@ fn days_by_each_way(rt: HostRuntime) {
         let (rule, _) = join_lines(rule, &mut table, way, 2, 1, &around_noon);
         let mut answers = [false; 4];
         for (answer, minute) in answers.iter_mut().zip([100, 700, 800, 900]) {
-            *answer = match rule.run(&Minutes, &table, &[minute]) {
+            *answer = match rule.run(&MINUTES, &table, &[minute]) {
                 Ok((_, is_ending)) => is_ending,
                 Err(_) => false,
             };
         }
-        rule.end(&Minutes);
+        rule.end(&MINUTES);
         assert_eq!(rt; answers, accepted);
     }
 }
@@ -164,12 +154,12 @@ fn states_that_are_not_told_apart_are_one(rt: HostRuntime) {
     // Only state 1 is an ending here, so that no two states are alike.
     let (rule, _) = join_lines(rule, &mut table, JoinBy::Both, 3, 1, &lines);
     let counts = rule.counts();
-    let rule = rule.turn(&Minutes);
+    let rule = rule.turn(&MINUTES);
     // Nothing is accepted by both.
     let (rule, _) = join_lines(rule, &mut table, JoinBy::Both, 3, 1, &lines);
     let none = rule.counts();
     let ends = rule.endings().contains(0);
-    rule.end(&Minutes);
+    rule.end(&MINUTES);
     assert_eq!(rt;
         counts,
         Counts {

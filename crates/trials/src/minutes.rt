@@ -1,7 +1,7 @@
 // Minutes at the edges, and rows that make no guard.
 use guards::algebra::Algebra;
 use guards::malformed::Malformed;
-use guards::minutes::{MinuteEntry, MinuteGuard, MinuteRow, Minutes, NO_MINUTES};
+use guards::minutes::{MINUTES, MinuteEntry, MinuteRange, MinuteRow, NO_MINUTES};
 
 const fn row(first: u16, last: u16) -> MinuteRow {
     MinuteRow { first, last }
@@ -15,10 +15,7 @@ fn entries(rt: HostRuntime) {
         (1440, Err(Malformed::Minutes)),
         (65535, Err(Malformed::Minutes)),
     ] {
-        let made = match MinuteEntry::new(number) {
-            Ok(entry) => Ok(entry.number()),
-            Err(why) => Err(why),
-        };
+        let made = MinuteEntry::try_from(number).map(u16::from);
         assert_eq!(rt; made, wanted);
     }
 }
@@ -41,13 +38,10 @@ fn guards(rt: HostRuntime) {
         } else {
             Err(Malformed::Minutes)
         };
-        let made = match MinuteGuard::new(row(first, last)) {
-            Ok(guard) => Ok(guard.row()),
-            Err(why) => Err(why),
-        };
+        let made = MinuteRange::try_from(row(first, last)).map(MinuteRow::from);
         assert_eq!(rt; made, wanted);
     }
-    assert_eq!(rt; MinuteGuard::Empty.row(), NO_MINUTES);
+    assert_eq!(rt; MinuteRow::from(None), NO_MINUTES);
 }
 
 #[test]
@@ -63,7 +57,7 @@ fn admission(rt: HostRuntime) {
         (NO_MINUTES, 0, false),
         (row(0, 2000), 5, false),
     ] {
-        assert_eq!(rt; Minutes.admits(guard, minute), wanted);
+        assert_eq!(rt; MINUTES.admits(guard, minute), wanted);
     }
 }
 
@@ -75,14 +69,14 @@ fn meets_and_samples(rt: HostRuntime) {
         (row(0, 1439), row(3, 1440), NO_MINUTES, None),
         (row(10, 20), row(0, 1439), row(10, 20), Some(10)),
     ] {
-        assert_eq!(rt; Minutes.meet(a, b), met);
-        assert_eq!(rt; Minutes.sample(met), sample);
+        assert_eq!(rt; MINUTES.meet(a, b), met);
+        assert_eq!(rt; MINUTES.sample(met), sample);
     }
 }
 
 #[test]
 fn rests(rt: HostRuntime) {
-    let whole = Minutes.whole();
+    let whole = MINUTES.whole();
     for (a, b, parts) in [
         (
             whole,
@@ -102,8 +96,8 @@ fn rests(rt: HostRuntime) {
         (row(0, 1440), whole, [None, None, None]),
     ] {
         for (number, part) in parts.iter().enumerate() {
-            assert_eq!(rt; Minutes.rest(a, b, number), *part);
+            assert_eq!(rt; MINUTES.rest(a, b, number), *part);
         }
-        assert_eq!(rt; Minutes.rest(a, b, usize::MAX), None);
+        assert_eq!(rt; MINUTES.rest(a, b, usize::MAX), None);
     }
 }

@@ -1,10 +1,10 @@
 // Pairs of algebras, pairs in pairs, and activity change words.
-use guards::activity::{ACTIVITY, ActivityGuard, entry_of_word};
+use guards::activity::{ACTIVITY, ActivityEntry, ActivityGuard, ChangeWord};
 use guards::algebra::Algebra;
 use guards::cases::worked_cases;
-use guards::flags::{Activity, FlagRow, Flags, NO_FLAGS};
+use guards::flags::{Activity, FLAGS, FlagRow, NO_FLAGS};
 use guards::malformed::Malformed;
-use guards::minutes::{MinuteRow, Minutes, NO_MINUTES};
+use guards::minutes::{MINUTES, MinuteRow, NO_MINUTES};
 use guards::pair::{Both, Pair};
 
 const DRIVING: FlagRow = FlagRow {
@@ -103,10 +103,10 @@ fn meets_samples_and_admission(rt: HostRuntime) {
 #[test]
 fn nested(rt: HostRuntime) {
     let three = Pair {
-        first: Flags,
+        first: FLAGS,
         second: Pair {
-            first: Minutes,
-            second: Flags,
+            first: MINUTES,
+            second: FLAGS,
         },
     };
     let whole = three.whole();
@@ -139,10 +139,10 @@ fn words(rt: HostRuntime) {
         (0x05A0, Err(Malformed::Minutes)),
         (0xFFFF, Err(Malformed::Minutes)),
     ] {
-        let made = match entry_of_word(word) {
-            Ok(Both { first, second }) => Ok((first, second)),
-            Err(why) => Err(why),
-        };
+        let made = ActivityEntry::try_from(ChangeWord(word)).map(|entry| (
+            entry.first,
+            entry.second,
+        ));
         assert_eq!(rt; made, wanted);
     }
     assert_eq!(rt; worked_cases(), 3);

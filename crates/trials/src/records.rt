@@ -7,7 +7,7 @@ use guards::malformed::Malformed;
 use guards::minutes::MinuteRow;
 use guards::pair::Both;
 use orders::order::Order;
-use orders::records::{RECORD_BYTES, decode, read};
+use orders::records::{RECORD_BYTES, read};
 use std::process::Abort;
 
 // A record with the letter and zeros.
@@ -56,7 +56,10 @@ fn known_letters(rt: HostRuntime) {
 fn all_letters(rt: HostRuntime) {
     for letter in 0..=255u8 {
         let is_known = b"OSEMCBIXTK".contains(&letter);
-        assert_eq!(rt; decode(&blank_record(letter)).is_ok(), is_known);
+        assert_eq!(rt;
+            Order::try_from(blank_record(letter).as_slice()).is_ok(),
+            is_known
+        );
     }
 }
 
@@ -65,7 +68,10 @@ fn sets_one_byte(rt: &impl Abort, letter: u8, used: &[usize], set: u8) {
     for place in 1..RECORD_BYTES {
         let mut bytes = blank_record(letter);
         bytes[place] = set;
-        assert_eq!(rt; decode(&bytes).is_ok(), used.contains(&place));
+        assert_eq!(rt;
+            Order::try_from(bytes.as_slice()).is_ok(),
+            used.contains(&place)
+        );
     }
 }
 
@@ -87,7 +93,10 @@ fn cuts_to_length(rt: &impl Abort, letter: u8, length: usize) {
     let mut bytes = [0; 20];
     bytes[0] = letter;
     assert!(rt; length <= 20);
-    assert_eq!(rt; decode(&bytes[..length]).is_ok(), length == RECORD_BYTES);
+    assert_eq!(rt;
+        Order::try_from(&bytes[..length]).is_ok(),
+        length == RECORD_BYTES
+    );
 }
 
 #[test]
@@ -102,7 +111,7 @@ fn every_length(rt: HostRuntime) {
 #[test]
 fn every_used_byte(rt: HostRuntime) {
     assert_eq!(rt;
-        decode(&[b'E', 255, 0, 0, 0, 0, 0, 0, 0, 0]),
+        Order::try_from([b'E', 255, 0, 0, 0, 0, 0, 0, 0, 0].as_slice()),
         Ok(Order::Mark(255))
     );
     // The place that is 255, and the order's numbers: from, to, care, value, first, last.
@@ -125,7 +134,10 @@ fn every_used_byte(rt: HostRuntime) {
             first: FlagRow { care, value },
             second: MinuteRow { first, last },
         };
-        assert_eq!(rt; decode(&bytes), Ok(Order::Write(Move { from, guard, to })));
+        assert_eq!(rt;
+            Order::try_from(bytes.as_slice()),
+            Ok(Order::Write(Move { from, guard, to }))
+        );
     }
 }
 

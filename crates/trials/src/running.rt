@@ -1,35 +1,23 @@
 // Running days on a rule, over minutes alone and over activity entries.
+use crate::clauses::GARBAGE;
 use automata::limits::MOVES;
 use automata::moves::Move;
 use automata::refusals::Refusal;
 use guards::activity::{ACTIVITY, ActivityGuard};
 use guards::algebra::Algebra;
-use guards::minutes::{MinuteRow, Minutes};
+use guards::minutes::MINUTES;
 use guards::pair::Both;
 use machines::clauses::Rule;
 use std::test::Fail;
 
-const GARBAGE: Move<MinuteRow> = Move {
-    from: 99,
-    guard: MinuteRow { first: 9, last: 1 },
-    to: 1000,
-};
-
 // What a new sheet's rule, turned over if asked, answers on the day, with the length of table that is shown to it.
 fn answer(turned: bool, length: usize, day: &[u16]) -> Result<(usize, bool), Refusal<u16>> {
     let mut table = [GARBAGE; MOVES + 1];
-    let rule = match Rule::new_sheet(&Minutes, &mut table) {
-        Ok(rule) => rule,
-        Err(why) => return Err(why),
-    };
-    let rule = if turned { rule.turn(&Minutes) } else { rule };
-    let shown = if length <= table.len() {
-        &table[0..length]
-    } else {
-        &table[0..]
-    };
-    let answer = rule.run(&Minutes, shown, day);
-    rule.end(&Minutes);
+    let rule = Rule::new_sheet(&MINUTES, &mut table)?;
+    let rule = if turned { rule.turn(&MINUTES) } else { rule };
+    let shown = length.min(table.len());
+    let answer = rule.run(&MINUTES, &table[..shown], day);
+    rule.end(&MINUTES);
     answer
 }
 
@@ -52,17 +40,17 @@ fn days_of_minutes(rt: HostRuntime) {
 fn stray_moves(rt: HostRuntime) -> Result<(), Fail> {
     for (from, to) in [(0, 1), (1, 0), (99, 1000)] {
         let mut table = [GARBAGE; MOVES];
-        let rule = match Rule::new_sheet(&Minutes, &mut table) {
+        let rule = match Rule::new_sheet(&MINUTES, &mut table) {
             Ok(rule) => rule,
             Err(why) => return Err(Fail::new("no sheet")),
         };
         table[0] = Move {
             from,
-            guard: Minutes.whole(),
+            guard: MINUTES.whole(),
             to,
         };
-        let answer = rule.run(&Minutes, &table, &[1440]);
-        rule.end(&Minutes);
+        let answer = rule.run(&MINUTES, &table, &[1440]);
+        rule.end(&MINUTES);
         assert_eq!(rt; answer, Err(Refusal::StrayMove));
     }
     Ok(())

@@ -1,16 +1,16 @@
 // A sheet after records, in plain values.
 use automata::limits::MOVES;
 use automata::moves::Move;
-use automata::refusals::Refusal;
-use completion::counts::Counts;
-use completion::endings::Endings;
+use automata::refusals::{Refusal, Refused};
 use guards::activity::{ACTIVITY, ActivityEntry, ActivityGuard};
 use machines::clauses::Rule;
 use orders::hand::Hand;
 use orders::records::RECORD_BYTES;
-use orders::steps::{Stepped, UNWRITTEN, step};
+use orders::steps::{Reader, UNWRITTEN};
 use std::process::Abort;
 use std::test::Fail;
+use tables::counts::Counts;
+use tables::endings::Endings;
 
 pub(crate) type Record = [u8; RECORD_BYTES];
 
@@ -59,36 +59,28 @@ fn seen_rule(rule: Rule) -> View {
     view
 }
 
-// What the records make of a rule, one after another, with nothing in hand at first; the refusal is that of the last.
-fn apply(rule: Rule, table: &mut [Move<ActivityGuard>], records: &[Record]) -> Stepped {
-    let mut stepped = Stepped {
-        hand: Hand::Nothing,
-        rule,
-        refusal: None,
-    };
-    for record in records {
-        let Stepped {
-            hand,
-            rule,
-            refusal: _,
-        } = stepped;
-        stepped = step(hand, rule, table, record);
-    }
-    stepped
-}
-
-// A new sheet after the records in their order.
+// A new sheet after the records in their order, with nothing in hand at first; the refusal is that of the last.
 pub(crate) fn play(records: &[Record]) -> Seen {
     let mut rule_table = [UNWRITTEN; MOVES];
     let mut table = [UNWRITTEN; MOVES];
     let Ok(rule) = Rule::new_sheet(&ACTIVITY, &mut rule_table) else {
-        unreachable()
+        unreachable!()
     };
-    let Stepped {
-        hand,
-        rule,
-        refusal,
-    } = apply(rule, &mut table, records);
+    let mut reader = Reader::new(rule);
+    let mut refusal = None;
+    for bytes in records {
+        reader = match reader.step(&mut table, bytes) {
+            Ok(next) => {
+                refusal = None;
+                next
+            }
+            Err(Refused { value, why }) => {
+                refusal = Some(why);
+                value
+            }
+        };
+    }
+    let Reader { hand, rule } = reader;
     Seen {
         hand: seen_hand(hand),
         rule: seen_rule(rule),
@@ -118,12 +110,9 @@ pub(crate) fn refused(
 
 // The states and moves of what is in hand, and whether state 1 is an ending of it.
 pub(crate) fn in_hand(seen: &Seen) -> Option<(usize, usize, bool)> {
-    match seen.hand {
-        None => None,
-        Some(view) => Some((
-            view.counts.states,
-            view.counts.moves,
-            view.endings.contains(1),
-        )),
-    }
+    seen.hand.map(|view| (
+        view.counts.states,
+        view.counts.moves,
+        view.endings.contains(1),
+    ))
 }

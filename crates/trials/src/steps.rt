@@ -97,12 +97,12 @@ fn accepted_orders(rt: HostRuntime) {
     ];
     for (count, hand, ends) in cases {
         assert!(rt; count <= 6);
-        let seen = play(&records[0..count]);
+        let seen = play(&records[..count]);
         assert_eq!(rt; seen.refusal, None);
         assert_eq!(rt; in_hand(&seen), hand);
         assert_eq!(rt; seen.rule.endings.contains(0), ends);
     }
-    let written = play(&records[0..4]).table[0];
+    let written = play(&records[..4]).table[0];
     assert_eq!(rt; (written.from, written.to), (0, 1));
     assert_eq!(rt; written.guard.first, FlagRow { care: 3, value: 3 });
     assert_eq!(rt;
@@ -118,12 +118,12 @@ fn accepted_orders(rt: HostRuntime) {
 fn as_many_as_fit(rt: HostRuntime) -> Result<(), Fail> {
     let mut states = [plain(b'S'); 64];
     states[0] = plain(b'O');
-    let full = play(&states[0..63]);
+    let full = play(&states[..63]);
     assert_eq!(rt; full.refusal, None);
     refused(&rt, &full, &play(&states), Refusal::TooManyStates)?;
     let mut moves = [plain(b'M'); 1026];
     moves[0] = plain(b'O');
-    let full = play(&moves[0..1025]);
+    let full = play(&moves[..1025]);
     assert_eq!(rt; full.refusal, None);
     refused(&rt, &full, &play(&moves), Refusal::TableFull)
 }

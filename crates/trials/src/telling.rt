@@ -2,7 +2,7 @@
 use crate::clauses::GARBAGE;
 use automata::limits::{MARKS, MOVES, WORD_ENTRIES};
 use automata::refusals::Refusal;
-use guards::minutes::Minutes;
+use guards::minutes::MINUTES;
 use machines::clauses::Rule;
 
 // What a new sheet's rule answers for two states, and the first and the last entry of the word buffer, which held 7; each
@@ -16,10 +16,7 @@ fn answer(
     let mut table = [GARBAGE; MOVES + 1];
     let mut word = [7; WORD_ENTRIES + 1];
     let mut marks = [255; MARKS + 1];
-    let rule = match Rule::new_sheet(&Minutes, &mut table) {
-        Ok(rule) => rule,
-        Err(why) => return Err(why),
-    };
+    let rule = Rule::new_sheet(&MINUTES, &mut table)?;
     table[0].to = to;
     let moves = if short.0 { MOVES - 1 } else { MOVES + 1 };
     let entries = if short.1 {
@@ -29,14 +26,14 @@ fn answer(
     };
     let bytes = if short.2 { MARKS - 1 } else { MARKS + 1 };
     let answer = rule.tell_apart(
-        &Minutes,
-        &table[0..moves],
+        &MINUTES,
+        &table[..moves],
         first,
         second,
-        &mut word[0..entries],
-        &mut marks[0..bytes],
+        &mut word[..entries],
+        &mut marks[..bytes],
     );
-    rule.end(&Minutes);
+    rule.end(&MINUTES);
     Ok((answer, word[0], word[WORD_ENTRIES]))
 }
 

@@ -1,12 +1,13 @@
-// The algebra of flags: its functions read each row as a guard.
-ghost use Rattle.std.specs.Prelude.{◌≡◌, ◌&&◌, ◌==◌, bit_and, nat_le};
+// What the algebra of flags answers for two patterns.
+ghost use Rattle.std.specs.Prelude.{◌≡◌};
 ghost use Rattle.guards.specs.Bits.{has};
-ghost use Rattle.guards.specs.Flags.{flags_model, pattern_row, joined, fresh, fixed, split, weights};
+ghost use Rattle.guards.specs.Flags.{flags_model, flags_overlap, is_pattern, no_flags, pattern_row, joined, fresh, fixed, split, weights};
 ghost use Rattle.std.specs.List.{slice_get};
-ghost use Rattle.guards.specs.FlagLaws.{flag_laws};
+ghost use Rattle.guards.specs.FlagLaws.{flag_laws, flags_read_as_empty};
 
-use super::{FlagGuard, FlagPattern, FlagRow, Flags, LAST_FLAGS, NO_FLAGS, WEIGHTS};
-use crate::algebra::{Algebra, only};
+use super::{FlagPattern, FlagRow, LAST_FLAGS, NO_FLAGS, WEIGHTS};
+use crate::algebra::only;
+use crate::rows::RowGuard;
 
 // Whether the number has the bit of that weight.
 fn has_bit(number: u8, weight: u8) -> bool
@@ -26,16 +27,9 @@ fn fix(row: FlagRow, weight: u8, on: bool) -> FlagRow
 }
 
 impl FlagPattern {
-    // Whether the entry agrees with the value on every care bit.
-    fn matches(self, flags: u8) -> bool
-        ensures { result ≡ (nat_le flags 31 && bit_and flags self.care == self.value) }
-    {
-        flags <= LAST_FLAGS && flags & self.care == self.value
-    }
-
     // Whether the two values are the same on the shared care bits.
     fn is_compatible(self, other: FlagPattern) -> bool
-        ensures { result ≡ (bit_and self.value (bit_and self.care other.care) == bit_and other.value (bit_and self.care other.care)) }
+        ensures { result ≡ flags_overlap (pattern_row self) (pattern_row other) }
     {
         let shared = self.care & other.care;
         self.value & shared == other.value & shared
@@ -58,78 +52,70 @@ impl FlagPattern {
         has_bit(other.care, weight) && !has_bit(self.care, weight)
     }
 
-    // The part of that number of this pattern without the other, where the two meet.
-    fn part(self, other: FlagPattern, number: usize) -> Option<FlagRow>
+    // The part of that number of this pattern without the other, where the two meet: a part for each fresh bit.
+    fn split(self, other: FlagPattern, number: usize) -> Option<FlagRow>
         ensures { result ≡ slice_get (split (pattern_row self) (pattern_row other) (pattern_row self) weights) number }
     {
-        let mut grown = self.row();
-        let mut left = number;
-        for weight in WEIGHTS {
-            if self.is_fresh(other, weight) {
-                let on = has_bit(other.value, weight);
-                if left == 0 {
-                    return Some(fix(grown, weight, !on));
-                }
-                left -= 1;
-                grown = fix(grown, weight, on);
-            }
-        }
-        None
+        WEIGHTS
+            .iter()
+            .filter(|weight| self.is_fresh(other, **weight))
+            .scan(FlagRow::from(self), |grown, weight| {
+                let on = has_bit(other.value, *weight);
+                let part = fix(*grown, *weight, !on);
+                *grown = fix(*grown, *weight, on);
+                Some(part)
+            })
+            .nth(number)
     }
 }
 
-impl Algebra for Flags {
+impl RowGuard for FlagPattern {
     type Entry = u8;
 
-    type Guard = FlagRow;
+    type Row = FlagRow;
 
-    ghost model = { λ _. flags_model };
+    const EMPTY: FlagRow = NO_FLAGS;
 
-    ghost lawful = { λ s. flag_laws };
+    ghost EMPTY = { no_flags };
 
-    fn whole(&self) -> FlagRow {
+    ghost model = { flags_model };
+
+    ghost makes = { is_pattern };
+
+    ghost written = { pattern_row };
+
+    ghost empty = { flags_read_as_empty };
+
+    ghost lawful = { flag_laws };
+
+    fn whole() -> FlagRow {
         FlagRow { care: 0, value: 0 }
     }
 
-    fn admits(&self, guard: FlagRow, of: u8) -> bool {
-        match FlagGuard::read(guard) {
-            FlagGuard::Empty => false,
-            FlagGuard::Pattern(pattern) => pattern.matches(of),
-        }
+    fn read(row: FlagRow) -> Option<FlagPattern> {
+        FlagPattern::try_from(row).ok()
     }
 
-    fn meet(&self, a: FlagRow, b: FlagRow) -> FlagRow {
-        let FlagGuard::Pattern(x) = FlagGuard::read(a) else {
-            return NO_FLAGS;
-        };
-        let FlagGuard::Pattern(y) = FlagGuard::read(b) else {
-            return NO_FLAGS;
-        };
-        if x.is_compatible(y) {
-            x.join(y)
+    // The entry agrees with the value on every care bit.
+    fn admits(self, flags: u8) -> bool {
+        flags <= LAST_FLAGS && flags & self.care == self.value
+    }
+
+    fn meet(self, other: FlagPattern) -> Option<FlagRow> {
+        self.is_compatible(other).then(|| self.join(other))
+    }
+
+    #[tactic(auto, using(crate::specs::FlagTests::pattern_made))]
+    fn sample(self) -> u8 {
+        self.value
+    }
+
+    #[tactic(auto, using(crate::specs::FlagTests::pattern_made))]
+    fn part(self, other: FlagPattern, number: usize) -> Option<FlagRow> {
+        if self.is_compatible(other) {
+            self.split(other, number)
         } else {
-            NO_FLAGS
-        }
-    }
-
-    fn sample(&self, guard: FlagRow) -> Option<u8> {
-        match FlagGuard::read(guard) {
-            FlagGuard::Empty => None,
-            FlagGuard::Pattern(pattern) => Some(pattern.value),
-        }
-    }
-
-    fn rest(&self, a: FlagRow, b: FlagRow, part: usize) -> Option<FlagRow> {
-        let FlagGuard::Pattern(x) = FlagGuard::read(a) else {
-            return None;
-        };
-        let FlagGuard::Pattern(y) = FlagGuard::read(b) else {
-            return only(a, part);
-        };
-        if x.is_compatible(y) {
-            x.part(y, part)
-        } else {
-            only(a, part)
+            only(FlagRow::from(self), number)
         }
     }
 }

@@ -1,32 +1,13 @@
-// The algebra of minutes: its functions read each row as a guard.
+// What the algebra of minutes answers for two ranges.
 ghost use Rattle.std.specs.Prelude.{◌≡◌};
-ghost use Rattle.guards.specs.Minutes.{minutes_model, minutes_admit, minutes_meet, minute_row, range_row, below, above};
+ghost use Rattle.guards.specs.Minutes.{minutes_model, is_range, no_minutes, range_row, below, above};
 ghost use Rattle.std.specs.Option.{option_to_list};
-ghost use Rattle.guards.specs.MinuteLaws.{minute_laws};
+ghost use Rattle.guards.specs.MinuteLaws.{minute_laws, minutes_read_as_empty};
 
-use super::{LAST_MINUTE, MinuteGuard, MinuteRange, MinuteRow, Minutes, NO_MINUTES};
-use crate::algebra::{Algebra, only};
+use super::{LAST_MINUTE, MinuteRange, MinuteRow, NO_MINUTES};
+use crate::rows::RowGuard;
 
 impl MinuteRange {
-    fn admits(self, minute: u16) -> bool
-        ensures { result ≡ minutes_admit (range_row self) minute }
-    {
-        self.first <= minute && minute <= self.last
-    }
-
-    // The minutes of both.
-    fn meet(self, other: MinuteRange) -> MinuteGuard
-        ensures { minute_row result ≡ minutes_meet (range_row self) (range_row other) }
-    {
-        let first = self.first.max(other.first);
-        let last = self.last.min(other.last);
-        if first <= last {
-            MinuteGuard::Range(MinuteRange { first, last })
-        } else {
-            MinuteGuard::Empty
-        }
-    }
-
     // The minutes of this range before the other's first.
     fn below(self, other: MinuteRange) -> Option<MinuteRow>
         ensures { option_to_list result ≡ below (range_row self) (range_row other) }
@@ -56,58 +37,54 @@ impl MinuteRange {
     }
 }
 
-impl Algebra for Minutes {
+impl RowGuard for MinuteRange {
     type Entry = u16;
 
-    type Guard = MinuteRow;
+    type Row = MinuteRow;
 
-    ghost model = { λ _. minutes_model };
+    const EMPTY: MinuteRow = NO_MINUTES;
 
-    ghost lawful = { λ s. minute_laws };
+    ghost EMPTY = { no_minutes };
 
-    fn whole(&self) -> MinuteRow {
+    ghost model = { minutes_model };
+
+    ghost makes = { is_range };
+
+    ghost written = { range_row };
+
+    ghost empty = { minutes_read_as_empty };
+
+    ghost lawful = { minute_laws };
+
+    fn whole() -> MinuteRow {
         MinuteRow {
             first: 0,
             last: LAST_MINUTE,
         }
     }
 
-    fn admits(&self, guard: MinuteRow, of: u16) -> bool {
-        match MinuteGuard::read(guard) {
-            MinuteGuard::Empty => false,
-            MinuteGuard::Range(range) => range.admits(of),
-        }
+    fn read(row: MinuteRow) -> Option<MinuteRange> {
+        MinuteRange::try_from(row).ok()
     }
 
-    fn meet(&self, a: MinuteRow, b: MinuteRow) -> MinuteRow {
-        let MinuteGuard::Range(x) = MinuteGuard::read(a) else {
-            return NO_MINUTES;
-        };
-        let MinuteGuard::Range(y) = MinuteGuard::read(b) else {
-            return NO_MINUTES;
-        };
-        x.meet(y).row()
+    fn admits(self, minute: u16) -> bool {
+        self.first <= minute && minute <= self.last
     }
 
-    fn sample(&self, guard: MinuteRow) -> Option<u16> {
-        match MinuteGuard::read(guard) {
-            MinuteGuard::Empty => None,
-            MinuteGuard::Range(range) => Some(range.first),
-        }
+    fn meet(self, other: MinuteRange) -> Option<MinuteRow> {
+        let first = self.first.max(other.first);
+        let last = self.last.min(other.last);
+        (first <= last).then_some(MinuteRow { first, last })
     }
 
-    fn rest(&self, a: MinuteRow, b: MinuteRow, part: usize) -> Option<MinuteRow> {
-        let MinuteGuard::Range(x) = MinuteGuard::read(a) else {
-            return None;
-        };
-        let MinuteGuard::Range(y) = MinuteGuard::read(b) else {
-            return only(a, part);
-        };
-        let low = x.below(y);
-        match (low, part) {
-            (Some(_), 0) => low,
-            (None, 0) | (Some(_), 1) => x.above(y),
-            _ => None,
-        }
+    fn sample(self) -> u16 {
+        self.first
+    }
+
+    fn part(self, other: MinuteRange, number: usize) -> Option<MinuteRow> {
+        self.below(other)
+            .into_iter()
+            .chain(self.above(other))
+            .nth(number)
     }
 }

@@ -3,9 +3,9 @@ ghost use Rattle.std.specs.Prelude.{◌≡◌};
 ghost use Rattle.machines.specs.Runs.{CheckedDiscardingRuns};
 
 use super::CheckedClause;
-use completion::counts::Counts;
-use completion::endings::Endings;
 use guards::algebra::Algebra;
+use tables::counts::Counts;
+use tables::endings::Endings;
 
 impl CheckedClause {
     // Ends the clause.

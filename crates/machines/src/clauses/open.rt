@@ -1,15 +1,18 @@
 // The calls on an open clause: opening, adding, marking, writing and discarding.
-ghost use Rattle.std.specs.Prelude.{◌≡◌};
+ghost use Rattle.std.specs.Prelude.{◌≡◌, None, Some, MatchResult};
+ghost use Rattle.automata.specs.Refusals.{told};
 ghost use Rattle.machines.specs.Calls.{Outcome, Opened, Added, Marked, Written, adding_refused, marking_refused, writing_refused};
 ghost use Rattle.machines.specs.Runs.{OpeningRuns, AddingRuns, MarkingRuns, WritingRuns, OpenDiscardingRuns};
 
 use super::OpenClause;
+use super::states::test_states;
+use crate::sizes::test_sizes;
 use automata::limits::{MOVES, WRITTEN_STATES};
 use automata::moves::Move;
 use automata::refusals::{Refusal, Refused};
-use completion::counts::Counts;
-use completion::endings::Endings;
 use guards::algebra::Algebra;
+use tables::counts::Counts;
+use tables::endings::Endings;
 
 impl OpenClause {
     // A clause with state 0 alone: no moves and no endings.
@@ -26,12 +29,13 @@ impl OpenClause {
         }
     }
 
-    // What adding answers; `add` adds that it keeps to the law upon runs. So it is with marking and writing.
-    fn added<A: Algebra>(
+    // One state more, and its number.
+    pub fn add<A: Algebra>(
         self,
         alg: &A,
     ) -> Result<(OpenClause, usize), Refused<OpenClause, A::Entry>>
-        ensures { Outcome (adding_refused self) (Added self) self (Unit {0}) result }
+        ensures value { Outcome (adding_refused self) (Added self) self (Unit {0}) result }
+        ensures runs { AddingRuns (A.model alg.now) self result }
     {
         if self.counts.states >= WRITTEN_STATES {
             return Err(Refused {
@@ -48,23 +52,14 @@ impl OpenClause {
         Ok((OpenClause { counts, endings }, states))
     }
 
-    // One state more, and its number.
-    pub fn add<A: Algebra>(
-        self,
-        alg: &A,
-    ) -> Result<(OpenClause, usize), Refused<OpenClause, A::Entry>>
-        ensures value { Outcome (adding_refused self) (Added self) self (Unit {0}) result }
-        ensures runs { AddingRuns (A.model alg.now) self result }
-    {
-        self.added(alg)
-    }
-
-    fn marked<A: Algebra>(
+    // The clause with that state an ending.
+    pub fn mark<A: Algebra>(
         self,
         alg: &A,
         state: usize,
     ) -> Result<OpenClause, Refused<OpenClause, A::Entry>>
-        ensures { Outcome (marking_refused self state) (Marked self state) self (Unit {0}) result }
+        ensures value { Outcome (marking_refused self state) (Marked self state) self (Unit {0}) result }
+        ensures runs { MarkingRuns (A.model alg.now) self state result }
     {
         if state >= self.counts.states {
             return Err(Refused {
@@ -79,58 +74,16 @@ impl OpenClause {
         })
     }
 
-    // The clause with that state an ending.
-    pub fn mark<A: Algebra>(
-        self,
-        alg: &A,
-        state: usize,
-    ) -> Result<OpenClause, Refused<OpenClause, A::Entry>>
-        ensures value { Outcome (marking_refused self state) (Marked self state) self (Unit {0}) result }
-        ensures runs { MarkingRuns (A.model alg.now) self state result }
+    // Refuses a move that cannot be written.
+    fn test_write<E, G>(&self, table: &[Move<G>], line: &Move<G>) -> Result<(), Refusal<E>>
+        ensures { MatchResult result (λ _. writing_refused {E = E} self.now table.now line.now ≡ None) (λ why. writing_refused self.now table.now line.now ≡ Some (told why)) }
     {
-        self.marked(alg, state)
-    }
-
-    fn written<A: Algebra>(
-        self,
-        alg: &A,
-        table: &mut [Move<A::Guard>],
-        line: Move<A::Guard>,
-    ) -> Result<OpenClause, Refused<OpenClause, A::Entry>>
-        ensures { Outcome (writing_refused self table.old line) (λ c. Written self table.old line c table.new) self (table.new ≡ table.old) result }
-    {
-        if table.len() < MOVES {
-            return Err(Refused {
-                value: self,
-                why: Refusal::TooShort,
-            });
-        }
-        if line.from >= self.counts.states {
-            return Err(Refused {
-                value: self,
-                why: Refusal::NoSuchState(line.from),
-            });
-        }
-        if line.to >= self.counts.states {
-            return Err(Refused {
-                value: self,
-                why: Refusal::NoSuchState(line.to),
-            });
-        }
+        test_sizes(&[(table.len(), MOVES)])?;
+        test_states(self.counts.states, line.from, line.to)?;
         if self.counts.moves >= MOVES {
-            return Err(Refused {
-                value: self,
-                why: Refusal::TableFull,
-            });
+            return Err(Refusal::TableFull);
         }
-        let OpenClause { counts, endings } = self;
-        let Counts { states, moves } = counts;
-        table[moves] = line;
-        let counts = Counts {
-            states,
-            moves: moves + 1,
-        };
-        Ok(OpenClause { counts, endings })
+        Ok(())
     }
 
     // The clause with that move at the next place of its table.
@@ -143,7 +96,17 @@ impl OpenClause {
         ensures value { Outcome (writing_refused self table.old line) (λ c. Written self table.old line c table.new) self (table.new ≡ table.old) result }
         ensures runs { WritingRuns (A.model alg.now) self line table.old table.new result }
     {
-        self.written(alg, table, line)
+        if let Err(why) = self.test_write(table, &line) {
+            return Err(Refused { value: self, why });
+        }
+        let OpenClause { counts, endings } = self;
+        let Counts { states, moves } = counts;
+        table[moves] = line;
+        let counts = Counts {
+            states,
+            moves: moves + 1,
+        };
+        Ok(OpenClause { counts, endings })
     }
 
     // Ends the clause.

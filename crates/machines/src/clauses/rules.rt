@@ -7,21 +7,25 @@ ghost use Rattle.machines.specs.Runs.{TurningRuns};
 ghost use Rattle.machines.specs.Turning.{TurnMeaning};
 
 use super::Rule;
+use crate::sizes::test_sizes;
 use automata::limits::MOVES;
 use automata::moves::Move;
 use automata::refusals::Refusal;
-use completion::counts::Counts;
-use completion::endings::Endings;
 use guards::algebra::Algebra;
+use tables::counts::Counts;
+use tables::endings::Endings;
 
 impl Rule {
-    // What a new sheet answers; `new_sheet` adds the promises.
-    fn whole<A: Algebra>(alg: &A, table: &mut [Move<A::Guard>]) -> Result<Rule, Refusal<A::Entry>>
-        ensures { SheetOutcome (A.model alg.now).whole table.old table.new result }
+    // A rule that accepts every day: one state, an ending, with the whole guard to itself.
+    pub fn new_sheet<A: Algebra>(
+        alg: &A,
+        table: &mut [Move<A::Guard>],
+    ) -> Result<Rule, Refusal<A::Entry>>
+        ensures value { SheetOutcome (A.model alg.now).whole table.old table.new result }
+        ensures kept { NewSheetKept (A.model alg.now) table.new result }
+        ensures promises { RulesKept (A.model alg.now) × RulesMatch (A.model alg.now) }
     {
-        if table.len() < MOVES {
-            return Err(Refusal::TooShort);
-        }
+        test_sizes(&[(table.len(), MOVES)])?;
         table[0] = Move {
             from: 0,
             guard: alg.whole(),
@@ -36,36 +40,17 @@ impl Rule {
         })
     }
 
-    // A rule that accepts every day: one state, an ending, with the whole guard to itself.
-    pub fn new_sheet<A: Algebra>(
-        alg: &A,
-        table: &mut [Move<A::Guard>],
-    ) -> Result<Rule, Refusal<A::Entry>>
-        ensures value { SheetOutcome (A.model alg.now).whole table.old table.new result }
-        ensures kept { NewSheetKept (A.model alg.now) table.new result }
-        ensures promises { RulesKept (A.model alg.now) × RulesMatch (A.model alg.now) }
-    {
-        Rule::whole(alg, table)
-    }
-
-    // Endings and other states change sides.
-    fn complement(self) -> Rule
-        ensures { Turned self result }
-    {
-        let Rule { counts, endings } = self;
-        Rule {
-            counts,
-            endings: endings.complement(counts.states),
-        }
-    }
-
     // The rule that accepts exactly the other days.
     pub fn turn<A: Algebra>(self, alg: &A) -> Rule
         ensures value { Turned self result }
         ensures meaning { TurnMeaning (A.model alg.now) self result }
         ensures runs { TurningRuns (A.model alg.now) self result }
     {
-        self.complement()
+        let Rule { counts, endings } = self;
+        Rule {
+            counts,
+            endings: endings.complement(counts.states),
+        }
     }
 
     // Ends the rule.

@@ -2,14 +2,15 @@
 ghost use Rattle.std.specs.Prelude.{◌≡◌};
 ghost use Rattle.automata.specs.Refusals.{said};
 ghost use Rattle.automata.specs.Running.{taken_by, next, walk};
-ghost use Rattle.machines.specs.RunCall.{ran, RunMeaning};
+ghost use Rattle.machines.specs.RunCall.{led, ran, RunMeaning};
 
 use super::Rule;
+use crate::sizes::test_sizes;
 use automata::limits::MOVES;
 use automata::moves::Move;
 use automata::refusals::Refusal;
-use completion::strays::has_stray;
 use guards::algebra::Algebra;
+use tables::machines::Machine;
 
 // Whether the move goes from the state and admits the entry.
 fn takes<A: Algebra>(alg: &A, line: &Move<A::Guard>, state: usize, e: A::Entry) -> bool
@@ -27,52 +28,32 @@ fn next_state<A: Algebra>(
 ) -> Option<usize>
     ensures { result ≡ next (A.model alg.now) moves.now state e }
 {
-    for line in moves {
-        if takes(alg, line, state, e) {
-            return Some(line.to);
-        }
-    }
-    None
+    moves
+        .iter()
+        .find(|line| takes(alg, line, state, e))
+        .map(|line| line.to)
 }
 
-// The state that the day leads to from 0, or the place of the first entry without a next state.
-fn follow<A: Algebra>(alg: &A, moves: &[Move<A::Guard>], day: &[A::Entry]) -> Result<usize, usize>
-    ensures { result ≡ walk (next (A.model alg.now) moves.now) 0 0 day.now }
+// The state that the day leads to from 0; refused at the place of the first entry without a next state.
+fn follow<A: Algebra>(
+    alg: &A,
+    moves: &[Move<A::Guard>],
+    day: &[A::Entry],
+) -> Result<usize, Refusal<A::Entry>>
+    ensures { result ≡ led (walk (next (A.model alg.now) moves.now) 0 0 day.now) }
 {
     let mut state = 0;
     for (place, e) in day.iter().enumerate() {
-        match next_state(alg, moves, state, *e) {
-            Some(to) => state = to,
-            None => return Err(place),
-        }
+        let Some(to) = next_state(alg, moves, state, *e) else {
+            return Err(Refusal::NoMove(place));
+        };
+        state = to;
     }
     Ok(state)
 }
 
 impl Rule {
-    // What running answers; `run` adds what that means.
-    fn answer<A: Algebra>(
-        &self,
-        alg: &A,
-        table: &[Move<A::Guard>],
-        day: &[A::Entry],
-    ) -> Result<(usize, bool), Refusal<A::Entry>>
-        ensures { said result ≡ ran (A.model alg.now) self.now.counts self.now.endings table.now day.now }
-    {
-        if table.len() < MOVES {
-            return Err(Refusal::TooShort);
-        }
-        let moves = &table[0..self.counts.moves];
-        if has_stray(moves, self.counts.states) {
-            return Err(Refusal::StrayMove);
-        }
-        match follow(alg, moves, day) {
-            Ok(state) => Ok((state, self.endings.contains(state))),
-            Err(place) => Err(Refusal::NoMove(place)),
-        }
-    }
-
-    // The state that the day leads to, and whether it is an ending.
+    // The state that the day leads to, and whether it is an ending: two answers, neither of which depends on the other.
     pub fn run<A: Algebra>(
         &self,
         alg: &A,
@@ -82,6 +63,9 @@ impl Rule {
         ensures value { said result ≡ ran (A.model alg.now) self.now.counts self.now.endings table.now day.now }
         ensures meaning { RunMeaning (A.model alg.now) self.now.counts self.now.endings table.now day.now result }
     {
-        self.answer(alg, table, day)
+        test_sizes(&[(table.len(), MOVES)])?;
+        let machine = Machine::new(self.counts, self.endings, table)?;
+        let state = follow(alg, machine.moves, day)?;
+        Ok((state, self.endings.contains(state)))
     }
 }

@@ -1,22 +1,17 @@
-use Rattle.std.proofs.Common.{sym, ap}
+use Rattle.std.proofs.Common.{rules, tests, ◌∙◌}
+use Rattle.std.proofs.lemmas.Iterator.{YieldsList-from_slice}
+use Rattle.std.proofs.lemmas.Iterator.Adapters.{YieldsList-from_skip}
+use Rattle.std.proofs.lemmas.Iterator.Consumers.{YieldsList-at, YieldsList-from_enumerate}
 use Rattle.std.specs.Option.{option_map}
 use Rattle.automata.specs.Clashes.{clash}
-use Rattle.automata.proofs.FirstSome.{asked_hit, asked_more, asked_none}
+use Rattle.tables.proofs.FindMap.{find_map_from_yields_List, first_skipped}
 use Rattle.completion.proofs.clashes.second_clash.Goals as goal
-
-pub returns-in-Some : goal.returns-in-Some
-returns-in-Some g c =
-    let m = g.A.Algebra.model c.args.alg.now in
-    asked_hit (λ j v. option_map (λ e. (j, e)) (clash m c.args.first.now v)) c.args.moves.now c.loop-place.place _ c.loop-place.invariant c.index-moves-place.result _
-    c.loop-place-test.true c.index-moves-place.is (ap (option_map (λ e. (c.loop-place.place, e))) (sym c.in-Some.ensures))
-
-pub loop-place-preserved : goal.loop-place-preserved
-loop-place-preserved g c =
-    let m = g.A.Algebra.model c.args.alg.now in
-    asked_more (λ j v. option_map (λ e. (j, e)) (clash m c.args.first.now v)) c.args.moves.now c.loop-place.place _ c.loop-place.invariant c.index-moves-place.result
-    c.loop-place-test.true c.index-moves-place.is (ap (option_map (λ e. (c.loop-place.place, e))) (sym c.in_default.ensures))
 
 pub returns : goal.returns
 returns g c =
     let m = g.A.Algebra.model c.args.alg.now in
-    asked_none (λ j v. option_map (λ e. (j, e)) (clash m c.args.first.now v)) c.args.moves.now c.loop-place.place _ c.loop-place.invariant c.loop-place-test.false
+    let moves = c.args.moves.now in
+    find_map_from_yields_List (λ p. option_map (λ e. (p.0, e)) (clash m c.args.first.now p.1)) _ c.find_map.result c.find_map.ensures.runs
+    (YieldsList-from_skip c.args.start (YieldsList-at c.skip.ensures.source (YieldsList-from_enumerate (YieldsList-at c.enumerate.ensures.source (YieldsList-from_slice moves cc)) cc)) cc)
+    (λ x o q k. search (rules, tests))
+    ∙ first_skipped (λ j v. option_map (λ e. (j, e)) (clash m c.args.first.now v)) 0 c.args.start moves

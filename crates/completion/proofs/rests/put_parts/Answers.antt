@@ -1,49 +1,20 @@
-use Rattle.std.proofs.Common.{◌<◌, [], ◌∷◌, ◌++◌, length, take, is_some, sym, ap, ◌∙◌, arith, length-append, rules}
-use Rattle.std.proofs.lemmas.List.{append_assoc, length-take-le, take_all}
-use Rattle.guards.proofs.Places.{nth_within, nth_beyond}
-use Rattle.automata.proofs.Appending.{no_room, pushed_length, nth_more}
+use Rattle.std.proofs.Common.{ap, ◌∙◌}
+use Rattle.std.proofs.lemmas.Iterator.Consumers.{YieldsList-from_first}
+use Rattle.std.proofs.lemmas.Result.{MatchResult-from_err}
+use Rattle.completion.proofs.Narrowing.{parts_put, parts_short}
 use Rattle.completion.proofs.rests.put_parts.Goals as goal
 
-pub returns-in_err-filled : goal.returns-in_err-filled
-returns-in_err-filled g c =
-    let ps = (g.A.Algebra.model c.args.alg.now).parts c.args.a c.args.b in
-    let within : c.loop-part.number < length ps = nth_within ps c.loop-part.number (ap is_some (sym c.in-Some.ensures)) in
-    no_room _ _ _ c.from_residual.ensures
-    (omega (
-      arith,
-      within,
-      c.in_err-filled.ensures,
-      length-append (take c.loop-part.filled c.loop-part.out) (c.in-Some.part ∷ []),
-      length-take-le c.loop-part.filled c.loop-part.out c.loop-part.invariant.0,
-      length-append (take c.args.count c.args.out.now) ps,
-      length-take-le c.args.count c.args.out.now c.requires,
-    ))
+pub returns-in_err-extend-clause-narrows : goal.returns-in_err-extend-clause-narrows
+returns-in_err-extend-clause-narrows g c =
+    let none = c.in_err-extend.ensures.appends _ (YieldsList-from_first (λ x. x) (λ s. s) _ c.new.ensures).runs in
+    MatchResult-from_err _ _ _ c.from_residual.ensures.0
+    (λ _. parts_short (g.A.Algebra.model c.args.alg.now) c.args.b c.args.guards.now c.loop-a.a-index c.loop-a.list c.loop-a.invariant.put c.a-item.result c.loop-a-test.true c.a-item.is none.0)
 
-pub overflow_add-number : goal.overflow_add-number
-overflow_add-number g c =
-    let made = c.in_ok-filled.ensures in
-    let longer = pushed_length _ _ _ _ c.in-Some.part c.loop-part.invariant.0 made.0 made.1 in
-    search rules
+pub returns-in_err-extend-clause-room : goal.returns-in_err-extend-clause-room
+returns-in_err-extend-clause-room g c =
+    (c.in_err-extend.ensures.appends _ (YieldsList-from_first (λ x. x) (λ s. s) _ c.new.ensures).runs).1 ∙ ap (λ h. h.room) c.loop-a.invariant.put
 
-pub loop-part-smaller : goal.loop-part-smaller
-loop-part-smaller g c =
-    omega (arith, nth_within ((g.A.Algebra.model c.args.alg.now).parts c.args.a c.args.b) c.loop-part.number (ap is_some (sym c.in-Some.ensures)))
-
-pub loop-part-preserved : goal.loop-part-preserved
-loop-part-preserved g c =
-    let ps = (g.A.Algebra.model c.args.alg.now).parts c.args.a c.args.b in
-    let front = take c.args.count c.args.out.now in
-    let made = c.in_ok-filled.ensures in
-    let longer = pushed_length _ _ _ _ c.in-Some.part c.loop-part.invariant.0 made.0 made.1 in
-    let within : c.loop-part.number < length ps = nth_within ps c.loop-part.number (ap is_some (sym c.in-Some.ensures)) in (
-      made.0,
-      omega arith,
-      omega arith,
-      made.1 ∙ ap (λ ys. ys ++ (c.in-Some.part ∷ [])) c.loop-part.invariant.3 ∙ append_assoc front (take c.loop-part.number ps) (c.in-Some.part ∷ [])
-          ∙ ap (λ ys. front ++ ys) (sym (nth_more ps c.loop-part.number c.in-Some.part (sym c.in-Some.ensures))),
-    )
-
-pub returns : goal.returns
-returns g c =
-    let ps = (g.A.Algebra.model c.args.alg.now).parts c.args.a c.args.b in
-    (c.loop-part.invariant.0, c.loop-part.invariant.3 ∙ ap (λ ys. take c.args.count c.args.out.now ++ ys) (take_all c.loop-part.number ps (nth_beyond ps c.loop-part.number (ap is_some (sym c.in_default.ensures)))))
+pub loop-a-preserved : goal.loop-a-preserved
+loop-a-preserved g c =
+    parts_put (g.A.Algebra.model c.args.alg.now) c.args.b c.args.guards.now c.loop-a.a-index c.loop-a.list c.loop-a.invariant.put c.a-item.result c.loop-a-test.true c.a-item.is
+    c.extend.new.self (c.in_ok-extend.ensures.appends _ (YieldsList-from_first (λ x. x) (λ s. s) _ c.new.ensures).runs) c.in_ok-extend.ensures.fits

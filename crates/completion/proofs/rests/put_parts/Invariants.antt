@@ -1,10 +1,10 @@
-use Rattle.std.proofs.Common.{◌≡◌, ◌+◌, ◌-◌, ◌≤◌, ◌++◌, length, take}
+use Rattle.std.proofs.Common.{◌≡◌, ◌≤◌, length, take}
+use Rattle.automata.specs.Checking.{without}
+use Rattle.automata.specs.Limits.{most_parts}
 use Rattle.completion.proofs.rests.put_parts.Given as goal
 
-abbrev pub invariant-loop-part : goal.invariant-loop-part
-invariant-loop-part g l =
-    let ps = (g.A.Algebra.model l.alg).parts l.a l.b in
-    (l.filled ≤ length l.out) × (l.number ≤ length ps) × (l.filled ≡ l.count + l.number) × (take l.filled l.out ≡ take l.count l.initial.out ++ take l.number ps)
-
-abbrev pub decreases-loop-part : goal.decreases-loop-part
-decreases-loop-part g l = length ((g.A.Algebra.model l.alg).parts l.a l.b) - l.number
+abbrev pub invariant-loop-a : goal.invariant-loop-a
+invariant-loop-a g l = record {
+  put : l.list ≡ record { items = without (g.A.Algebra.model l.alg) l.b (take l.a-index l.guards); room = most_parts };
+  fits : length l.list.items ≤ most_parts;
+}

@@ -1,38 +1,21 @@
-use Rattle.std.proofs.Common.{length, ap, ◌∙◌, subst, arith}
-use Rattle.std.proofs.lemmas.List.{length-take-le}
-use Rattle.guards.specs.Lists.{any}
-use Rattle.automata.specs.Limits.{most_states, most_rounds}
-use Rattle.automata.specs.Running.{stray}
-use Rattle.completion.specs.Endings.{holds}
+use Rattle.std.proofs.Common.{false, map, length, get_or, ap, ◌∙◌, subst, arith}
+use Rattle.automata.proofs.KeptStates.{kept_few}
+use Rattle.tables.specs.Endings.{holds}
+use Rattle.reduction.specs.Marks.{apart_by}
+use Rattle.reduction.specs.Placed.{Placed}
 use Rattle.reduction.specs.Reducing.{moves_kept}
-use Rattle.reduction.specs.Rounds.{machine_of, RoundMarks}
-use Rattle.reduction.specs.Words.{Placed}
-use Rattle.reduction.proofs.ClassPlaces.{kept_are_states}
 use Rattle.reduction.proofs.ReducedTables.{reduced_as}
-use Rattle.reduction.proofs.WordLoop.{no_stray_above}
 use Rattle.reduction.proofs.reducing.reduce.Goals as goal
 
-pub put_kept-count-requires : goal.put_kept-count-requires
-put_kept-count-requires g c =
-    let counted = c.front-moves.ensures in
-    record {
-      states = (
-        ap (any (stray most_states)) counted ∙ no_stray_above c.args.counts.states most_states _ c.requires.within.1 c.requires.no_stray,
-        kept_are_states c.mark_rounds.new.marks c.front-firsts.result.now c.args.counts.states c.requires.within.1 (c.front-firsts.ensures ∙ c.keep_states-states.ensures.front),
-      );
-      bytes = omega (arith, c.requires.bytes, c.mark_rounds.auto.marks);
-      room = omega (arith, ap length counted, length-take-le c.args.counts.moves c.args.spare.now (omega (arith, c.requires.within.2, c.requires.tables.0)), c.requires.within.2, c.requires.tables.1);
-    }
+pub reordered-requires : goal.reordered-requires
+reordered-requires g c =
+    omega (arith, ap length (c.as_slice.ensures ∙ c.new-classes.ensures.kept), kept_few (apart_by c.mark_rounds-rounds.result) c.args.product.now.states, c.args.product.now.few)
 
 pub returns : goal.returns
 returns g c =
-    let m = g.A.Algebra.model c.args.alg.now in
-    let marks = c.mark_rounds.new.marks in
-    let firsts = c.front-firsts.result.now in
-    let values = c.reduced_values.ensures in
-    let counted = c.front-moves.ensures in
-    let placed = subst (λ vs. Placed (moves_kept marks firsts vs) c.args.table.now c.put_kept-count.new.table c.put_kept-count.result) counted c.put_kept-count.ensures in
-    reduced_as m c.args.counts c.args.endings c.args.spare.now marks c.requires.within c.requires.tables.0 c.requires.no_stray
-    (subst (λ vs. RoundMarks m (machine_of c.args.counts.states (holds c.args.endings) vs) most_rounds marks) counted c.mark_rounds.ensures)
-    firsts (c.front-firsts.ensures ∙ c.keep_states-states.ensures.front) c.args.table.now c.put_kept-count.new.table c.reduced_values.result values.counts.0 values.ends
-    (values.counts.1 ∙ placed.0, placed.1)
+    let classes = c.new-classes.result in
+    let vs = c.args.product.now.moves.now in
+    reduced_as (g.A.Algebra.model c.args.alg.now) c.args.product.now c.mark_rounds-rounds.result c.mark_rounds-rounds.ensures classes.kept.items c.new-classes.ensures.kept
+    c.args.table.now c.place_moves.new.table _ c.len.ensures
+    (λ k. c.reordered.ensures k ∙ ap (λ ks. get_or (map (holds c.args.product.now.endings) ks) k false) c.as_slice.ensures)
+    (subst (λ ms. Placed (moves_kept ms classes.kept.items vs) c.args.table.now c.place_moves.new.table c.place_moves.result) c.new-classes.ensures.marks c.place_moves.ensures)
