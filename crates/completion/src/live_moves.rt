@@ -34,7 +34,7 @@ impl<'a, A: Algebra> Model for LiveMoves<'a, A> {
 }
 
 impl<'a, A: Algebra> LiveMoves<'a, A> {
-    pub fn new(alg: &'a A, moves: &'a [Move<A::Guard>], state: usize) -> LiveMoves<'a, A>
+    pub(crate) fn new(alg: &'a A, moves: &'a [Move<A::Guard>], state: usize) -> LiveMoves<'a, A>
         ensures { result ≡ filter (is_live (A.model alg.now) state) moves.now }
     {
         LiveMoves {

@@ -14,8 +14,8 @@ use guards::algebra::Algebra;
 use tables::lists::{Full, SliceVec};
 
 impl<'a, 'w, A: Algebra> ReachedStates<'a, 'w, A> {
-    // Places the live moves of the state. It is asked, here and below, that the state is reached: a type of reached states would not
-    // say by which search.
+    // Places the live moves of the state. It is asked, here and below, that the state is reached: a type of reached states would
+    // not say by which search.
     fn place_lines(&self, state: usize, moves: &mut SliceVec<Move<A::Guard>>) -> Result<(), Full>
         requires { Member state self.now.work.found }
         ensures { let g = self.now.graph in Appends (lines_of (A.model g.alg.now) (machine_of g.clause.now) state) moves.old moves.new result }
@@ -63,7 +63,7 @@ impl<'a, 'w, A: Algebra> ReachedStates<'a, 'w, A> {
     }
 
     // Places what each state places, in order.
-    pub fn place_states(
+    pub(crate) fn place_states(
         &self,
         rest: &mut Rest<A>,
         moves: &mut SliceVec<Move<A::Guard>>,
@@ -79,7 +79,7 @@ impl<'a, 'w, A: Algebra> ReachedStates<'a, 'w, A> {
 
     // Places the sink's own move, if a move leads to the sink, which it does just where a rest is not empty; gives the count of
     // states.
-    pub fn place_sink(&self, moves: &mut SliceVec<Move<A::Guard>>) -> Result<usize, Full>
+    pub(crate) fn place_sink(&self, moves: &mut SliceVec<Move<A::Guard>>) -> Result<usize, Full>
         requires { let g = self.now.graph in let alg = A.model g.alg.now in let M = machine_of g.clause.now in
             moves.old.items ≡ flat_map (placed alg M) (order alg M) }
         ensures { let g = self.now.graph in AllPlaced (A.model g.alg.now) (machine_of g.clause.now) moves.old moves.new result }

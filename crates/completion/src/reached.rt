@@ -21,7 +21,7 @@ pub struct ReachedStates<'a, 'w, A: Algebra> {
 
 impl<'a, 'w, A: Algebra> ReachedStates<'a, 'w, A> {
     // Finds them; the buffers have their least sizes.
-    pub fn new(
+    pub(crate) fn new(
         graph: ClauseGraph<'a, A>,
         marks: &'w mut [u8],
         buffer: &'w mut [usize],
@@ -39,7 +39,7 @@ impl<'a, 'w, A: Algebra> ReachedStates<'a, 'w, A> {
     }
 
     // The new number of a reached state.
-    pub fn number(&self, state: usize) -> usize
+    pub(crate) fn number(&self, state: usize) -> usize
         requires { Member state self.now.work.found }
         ensures { let g = self.now.graph in result ≡ number (A.model g.alg.now) (machine_of g.clause.now) state }
     {
@@ -47,7 +47,7 @@ impl<'a, 'w, A: Algebra> ReachedStates<'a, 'w, A> {
     }
 
     // The number of the sink, which comes last.
-    pub fn sink(&self) -> usize
+    pub(crate) fn sink(&self) -> usize
         ensures { let g = self.now.graph in result ≡ sink (A.model g.alg.now) (machine_of g.clause.now) }
     {
         self.work.found().len()

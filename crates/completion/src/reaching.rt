@@ -19,7 +19,7 @@ pub struct ClauseGraph<'a, A: Algebra> {
 
 impl<'a, A: Algebra> ClauseGraph<'a, A> {
     // The live moves of the state, in table order.
-    pub fn live_moves(&self, state: usize) -> LiveMoves<'a, A>
+    pub(crate) fn live_moves(&self, state: usize) -> LiveMoves<'a, A>
         ensures { result ≡ live (A.model self.now.alg.now) (machine_of self.now.clause.now) state }
     {
         LiveMoves::new(self.alg, self.clause.moves, state)

@@ -51,7 +51,7 @@ fn put_parts<A: Algebra>(
 
 impl<'a, A: Algebra> Rest<'a, A> {
     // No guards; the buffers have their least sizes.
-    pub fn new(parts: &'a mut [A::Guard], others: &'a mut [A::Guard]) -> Rest<'a, A>
+    pub(crate) fn new(parts: &'a mut [A::Guard], others: &'a mut [A::Guard]) -> Rest<'a, A>
         requires parts { most_parts ≤ length parts.old }
         requires others { most_parts ≤ length others.old }
         ensures { result ≡ [] }
@@ -63,7 +63,7 @@ impl<'a, A: Algebra> Rest<'a, A> {
     }
 
     // The guards, in order.
-    pub fn guards(&self) -> &[A::Guard]
+    pub(crate) fn guards(&self) -> &[A::Guard]
         ensures { result.now ≡ self.now }
     {
         self.guards.as_slice()
@@ -79,7 +79,7 @@ impl<'a, A: Algebra> Rest<'a, A> {
     }
 
     // Makes it what the live moves of the state leave of the whole guard, each in turn.
-    pub fn leave(&mut self, graph: &ClauseGraph<A>, state: usize) -> Result<(), Full>
+    pub(crate) fn leave(&mut self, graph: &ClauseGraph<A>, state: usize) -> Result<(), Full>
         ensures { let alg = A.model graph.now.alg.now in Leaves alg (live alg (machine_of graph.now.clause.now) state) self.new result }
     {
         self.guards.clear();

@@ -20,7 +20,11 @@ pub struct Classes<'a, 'm> {
 
 impl<'a, 'm> Classes<'a, 'm> {
     // Keeps states below the count from the lowest up.
-    pub fn new(marks: &'a PairMarks<'m>, states: usize, buffer: &'a mut [usize]) -> Classes<'a, 'm>
+    pub(crate) fn new(
+        marks: &'a PairMarks<'m>,
+        states: usize,
+        buffer: &'a mut [usize],
+    ) -> Classes<'a, 'm>
         requires { states ≤ length buffer.old }
         ensures marks { result.marks.now ≡ marks.now }
         ensures kept { result.kept.items ≡ kept_states marks.now states }
@@ -37,7 +41,7 @@ impl<'a, 'm> Classes<'a, 'm> {
 
     // The place of the first kept state from which the state is not apart; how many are kept, where it is apart from all. It is a
     // number there too, as in the definition of a reduced move, which would take an Option apart at once.
-    pub fn class_of(&self, state: usize) -> usize
+    pub(crate) fn class_of(&self, state: usize) -> usize
         ensures { result ≡ class_of (apart_by self.now.marks.now) self.now.kept.items state }
     {
         let kept = self.kept.as_slice();
@@ -60,14 +64,14 @@ impl<'a, 'm> Classes<'a, 'm> {
     }
 
     // Whether the state is kept.
-    pub fn contains(&self, state: usize) -> bool
+    pub(crate) fn contains(&self, state: usize) -> bool
         ensures { result ≡ list_any (λ first. nat_eq first state) self.now.kept.items }
     {
         self.kept.as_slice().contains(&state)
     }
 
     // The move between the classes of its states.
-    pub fn redirect<G: Copy>(&self, line: &Move<G>) -> Move<G>
+    pub(crate) fn redirect<G: Copy>(&self, line: &Move<G>) -> Move<G>
         ensures { result ≡ redirected (apart_by self.now.marks.now) self.now.kept.items line.now }
     {
         Move {
@@ -78,7 +82,7 @@ impl<'a, 'm> Classes<'a, 'm> {
     }
 
     // Writes the moves of kept states, between classes, from place 0 of the table; how many they are.
-    pub fn place_moves<G: Copy>(&self, moves: &[Move<G>], table: &mut [Move<G>]) -> usize
+    pub(crate) fn place_moves<G: Copy>(&self, moves: &[Move<G>], table: &mut [Move<G>]) -> usize
         requires { length moves.now ≤ length table.old }
         ensures { Placed (moves_kept self.now.marks.now self.now.kept.items moves.now) table.old table.new result }
     {

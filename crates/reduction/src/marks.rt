@@ -29,7 +29,7 @@ impl<'a> Model for PairMarks<'a> {
 
 impl<'a> PairMarks<'a> {
     // Marks each two states as round 0 separates them: where just one is an ending.
-    pub fn new(endings: Endings, bytes: &'a mut [u8]) -> PairMarks<'a>
+    pub(crate) fn new(endings: Endings, bytes: &'a mut [u8]) -> PairMarks<'a>
         requires { mark_bytes ≤ length bytes.old }
         ensures { (p q : ℕ) → p < most_states → q < most_states → round_at result p q ≡ first_round (holds endings) p q }
     {
@@ -41,7 +41,7 @@ impl<'a> PairMarks<'a> {
     }
 
     // The round that separates two states; None where none does, or where one is not below the limit.
-    pub fn round(&self, p: usize, q: usize) -> Option<usize>
+    pub(crate) fn round(&self, p: usize, q: usize) -> Option<usize>
         ensures { result ≡ round_at self.now p q }
     {
         if p >= STATES || q >= STATES {
@@ -51,14 +51,14 @@ impl<'a> PairMarks<'a> {
     }
 
     // Whether a round separates two states.
-    pub fn is_apart(&self, p: usize, q: usize) -> bool
+    pub(crate) fn is_apart(&self, p: usize, q: usize) -> bool
         ensures { result ≡ apart_by self.now p q }
     {
         self.round(p, q).is_some()
     }
 
     // Marks two states as separated in the round.
-    pub fn set(&mut self, p: usize, q: usize, round: usize)
+    pub(crate) fn set(&mut self, p: usize, q: usize, round: usize)
         requires states { (p < most_states) × (q < most_states) }
         requires small { round < most_rounds }
         ensures { (i j : ℕ) → round_at self.new i j ≡ (if p == i && q == j then Some round else round_at self.old i j) }

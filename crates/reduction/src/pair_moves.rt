@@ -80,7 +80,7 @@ impl<'a, A: Algebra> Model for PairMoves<'a, A> {
 }
 
 impl<'a, A: Algebra> PairMoves<'a, A> {
-    pub fn new(
+    pub(crate) fn new(
         alg: &'a A,
         pair: StatePair,
         rule_moves: &'a [Move<A::Guard>],

@@ -25,14 +25,14 @@ pub struct PairGraph<'a, A: Algebra> {
 
 impl<'a, A: Algebra> PairGraph<'a, A> {
     // The moves of the pair.
-    pub fn moves(&self, pair: StatePair) -> PairMoves<'a, A>
+    pub(crate) fn moves(&self, pair: StatePair) -> PairMoves<'a, A>
         ensures { result ≡ pair_moves (A.model self.now.alg.now) self.now.rule.now.moves.now self.now.clause.now.moves.now pair }
     {
         PairMoves::new(self.alg, pair, self.rule.moves, self.clause.moves)
     }
 
     // Finds the pairs that are reached from the starts, breadth first; refused where they are too many.
-    pub fn reach(&self, work: &mut Worklist<StatePair>) -> Result<(), Refusal<A::Entry>>
+    pub(crate) fn reach(&self, work: &mut Worklist<StatePair>) -> Result<(), Refusal<A::Entry>>
         requires fresh { work.old ≡ record { found = []; visited = 0 } }
         ensures { let xs = pairs (A.model self.now.alg.now) (machine_of self.now.rule.now) (machine_of self.now.clause.now) in
             MatchResult result (λ _. work.new.found ≡ xs) (λ why. (why ≡ TooManyPairs) × (most_states < length xs)) }

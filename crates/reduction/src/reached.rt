@@ -56,7 +56,7 @@ impl<'a, 'w, A: Algebra> ReachedPairs<'a, 'w, A> {
     }
 
     // Writes the moves of all reached pairs to the front of the table, in the order of the pairs; refused where they have no room.
-    pub fn place_moves<'s>(
+    pub(crate) fn place_moves<'s>(
         &self,
         table: &'s mut [Move<A::Guard>],
     ) -> Result<&'s [Move<A::Guard>], Full>

@@ -85,7 +85,7 @@ impl<'a, A: Algebra> NextRound<'a, A> {
 }
 
 // Marks the round in which each two states of the machine are separated.
-pub fn mark_rounds<'m, A: Algebra>(
+pub(crate) fn mark_rounds<'m, A: Algebra>(
     alg: &A,
     machine: &Machine<A::Guard>,
     bytes: &'m mut [u8],

@@ -57,7 +57,7 @@ impl<'a, 'm, A: Algebra> Steps<'a, 'm, A> {
     }
 
     // The first step, by the moves of the lower state and then those of the higher.
-    pub fn first(&self) -> Option<WordStep<A::Entry>>
+    pub(crate) fn first(&self) -> Option<WordStep<A::Entry>>
         ensures { let s = self.now in
             result ≡ first_step (A.model s.alg.now) s.moves.now (in_round s.marks.now s.round) s.lower s.higher }
     {

@@ -15,8 +15,8 @@ use automata::refusals::Refusal;
 use guards::algebra::Algebra;
 use tables::machines::Machine;
 
-// Writes the word of two states that are separated in the round from place 0 of the buffer; gives its length. The steps are a struct;
-// what is left is of this function alone.
+// Writes the word of two states that are separated in the round from place 0 of the buffer; gives its length. The steps are a
+// struct; what is left is of this function alone.
 fn write_word<'a, 'm, A: Algebra>(
     alg: &'a A,
     machine: &'a Machine<'a, A::Guard>,

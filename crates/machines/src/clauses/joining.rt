@@ -51,8 +51,8 @@ impl Rule {
         Ok(reduce(alg, &product, marks, table))
     }
 
-    // The rule with the clause joined to it, at its smallest; its moves are written from place 0 of its table. What takes part is of
-    // kinds of its own, and handed back or lent apart, so that a struct of it would be made for this call alone.
+    // The rule with the clause joined to it, at its smallest; its moves are written from place 0 of its table. What takes part is
+    // of kinds of its own, and handed back or lent apart, so that a struct of it would be made for this call alone.
     pub fn join<A: Algebra>(
         self,
         alg: &A,

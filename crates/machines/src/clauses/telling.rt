@@ -17,8 +17,8 @@ use reduction::words::place_word;
 use tables::machines::Machine;
 
 impl Rule {
-    // Writes the word that tells two states apart from place 0 of the buffer, and answers its length: the contract says what the whole
-    // buffer holds. The states and buffers are of no other call, so that a struct of them would be made for this one alone.
+    // Writes the word that tells two states apart from place 0 of the buffer, and answers its length: the contract says what the
+    // whole buffer holds. The states and buffers are of no other call, so that a struct of them would be made for this one alone.
     pub fn tell_apart<A: Algebra>(
         &self,
         alg: &A,
