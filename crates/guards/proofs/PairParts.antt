@@ -1,37 +1,47 @@
 -- The part of a number in the rest of a pair, from its two runs.
-use Rattle.std.proofs.Common.{◌≡◌, ℕ, zero, suc, ◌<◌, ◌^◌, Bool, true, false, cond, ◌&&◌, List, [], ◌∷◌, ◌++◌, map, take, is_some, Some, None, Option, refl, sym, ap, ap₂, ◌∙◌, arith}
+use Rattle.std.proofs.Common.{◌≡◌, ℕ, zero, suc, ◌-◌, ◌<◌, ◌≤◌, ◌^◌, Bool, true, false, cond, ◌&&◌, List, [], ◌∷◌, ◌++◌, map, length, take, is_some, Some, None, Option, refl, sym, ap, ap₂, ◌∙◌, arith}
+use lib.ListN.{length-map}
 use Rattle.std.specs.Option.{option_map}
-use Rattle.std.proofs.lemmas.Iterator.Adapters.{option_map_id}
-use Rattle.std.proofs.lemmas.List.{append-nil}
+use Rattle.std.proofs.lemmas.Bool.{both_ways}
+use Rattle.std.proofs.lemmas.Iterator.{items_from_drains}
+use Rattle.std.proofs.lemmas.Iterator.Consumers.{YieldsList-from_first}
+use Rattle.std.proofs.lemmas.List.{take_all}
+use Rattle.std.proofs.lemmas.Option.{slice_get-map}
+use Rattle.std.specs.Iterator.{YieldsFirst, YieldsThen}
 use Rattle.std.specs.List.{slice_get}
 use Rattle.guards.specs.Algebra.{Model, numbered}
 use Rattle.guards.specs.Pair.{both, both_some, first_parts, pair_parts}
 use Rattle.guards.specs.declared.pair.Both.{Both}
 
--- numbers reach as far as the question does
-in_second : {Y Z : Type 0} (g : Y → Z) (ys : List Y) (k most : ℕ) → k < most → slice_get (map g (take most ys)) k ≡ slice_get (map g ys) k
-in_second g [] k zero h = refl
-in_second g [] k (suc most) h = refl
-in_second g (y ∷ ys) k zero h = absurd (omega arith)
-in_second g (y ∷ ys) zero (suc most) h = refl
-in_second g (y ∷ ys) (suc k) (suc most) h = in_second g ys k most (omega arith)
+nth_front : {X : Type 0} (xs ys : List X) (k : ℕ) (x : X) → slice_get xs k ≡ Some x → slice_get (xs ++ ys) k ≡ Some x
+nth_front [] ys k x h = absurd (both_ways false refl (ap is_some h))
+nth_front (y ∷ xs) ys zero x h = h
+nth_front (y ∷ xs) ys (suc k) x h = nth_front xs ys k x h
 
-in_either : {X Y Z : Type 0} (f : X → Z) (g : Y → Z) (xs : List X) (ys : List Y) (k l m : ℕ) → k < l → k < m
-    → slice_get (map f (take l xs) ++ map g (take m ys)) k ≡ slice_get (map f xs ++ map g ys) k
-in_either f g [] ys k zero m h i = absurd (omega arith)
-in_either f g [] ys k (suc l) m h i = in_second g ys k m i
-in_either f g (x ∷ xs) ys k zero m h i = absurd (omega arith)
-in_either f g (x ∷ xs) ys zero (suc l) m h i = refl
-in_either f g (x ∷ xs) ys (suc k) (suc l) m h i = in_either f g xs ys k l m (omega arith) (omega arith)
+nth_beyond : {X : Type 0} (xs : List X) (k : ℕ) → slice_get xs k ≡ None → length xs ≤ k
+nth_beyond [] k h = omega arith
+nth_beyond (x ∷ xs) zero h = absurd (both_ways true (ap is_some h) refl)
+nth_beyond (x ∷ xs) (suc k) h = let i = nth_beyond xs k h in omega arith
 
-nth_first : {X Z : Type 0} (f : X → Z) (xs : List X) (k : ℕ) → k < 2 ^ 64 → slice_get (map f (numbered xs)) k ≡ slice_get (map f xs) k
+nth_behind : {X : Type 0} (xs ys : List X) (k : ℕ) → length xs ≤ k → slice_get (xs ++ ys) k ≡ slice_get ys (k - length xs)
+nth_behind [] ys k h = ap (slice_get ys) (omega arith)
+nth_behind (x ∷ xs) ys zero h = absurd (omega arith)
+nth_behind (x ∷ xs) ys (suc k) h = nth_behind xs ys k (omega arith) ∙ ap (slice_get ys) (omega arith)
+
+-- no part has that number: so all parts have a number, and are at most so many
+pub few_parts : {G : Type 0} (ps : List G) (k : ℕ) → slice_get ps k ≡ None → k < 2 ^ 64 → (length (numbered ps) ≡ length ps) × (length ps ≤ k)
 unfolding numbered
-nth_first f xs k h = in_second f xs k (2 ^ 64) h
+few_parts ps k none fits =
+    let few = nth_beyond ps k none in
+    (ap length (take_all (2 ^ 64) ps (omega (arith, few, fits))), few)
 
-nth_runs : {X Y Z : Type 0} (f : X → Z) (g : Y → Z) (xs : List X) (ys : List Y) (k : ℕ) → k < 2 ^ 64
-    → slice_get (map f (numbered xs) ++ map g (numbered ys)) k ≡ slice_get (map f xs ++ map g ys) k
-unfolding numbered
-nth_runs f g xs ys k h = in_either f g xs ys k (2 ^ 64) (2 ^ 64) h h
+-- a run over the numbered parts takes all of them
+pub all_taken : {G : Type 0} (ps : List G) (k : ℕ) → slice_get ps k ≡ None → k < 2 ^ 64 → (xs from left : List G)
+    → YieldsThen (YieldsFirst (λ s. s)) from xs None left → from ≡ numbered ps → length xs ≡ length ps
+all_taken ps k none fits xs from left run whole =
+    sym (length-map xs (λ p. p))
+    ∙ ap length (items_from_drains xs (run.0, run.1, λ _. (left, run.2)) (YieldsList-from_first (λ p. p) (λ s. s) (numbered ps) whole))
+    ∙ (few_parts ps k none fits).0
 
 both_live : {X Y : Type 0} (x : Option X) (y : Option Y) → is_some (both_some x y) ≡ (is_some x && is_some y)
 both_live None y = refl
@@ -39,22 +49,33 @@ both_live (Some x) None = refl
 both_live (Some x) (Some y) = refl
 
 -- both sides of a admit something
-module _ {E₁ G₁ E₂ G₂ : Type 0} (m : Model E₁ G₁) (n : Model E₂ G₂) (a b : Both G₁ G₂) (k : ℕ) (fits : k < 2 ^ 64)
+module _ {E₁ G₁ E₂ G₂ : Type 0} (m : Model E₁ G₁) (n : Model E₂ G₂) (a b : Both G₁ G₂) (k : ℕ)
     (live : is_some (both_some (m.sample a.first) (n.sample a.second)) ≡ true) where
   parts : (t : Bool) → is_some (m.sample (m.meet a.first b.first)) ≡ t
       → pair_parts m n a b ≡ first_parts m n a b ++ cond t (map (both (m.meet a.first b.first)) (n.parts a.second b.second)) []
   parts t h = ap₂ (λ s t. cond s (first_parts m n a b ++ cond t (map (both (m.meet a.first b.first)) (n.parts a.second b.second)) []) []) (sym (both_live (m.sample a.first) (n.sample a.second)) ∙ live) h
 
-  -- the answer r stands in the first run, where the meet admits nothing
-  pub rest_first : (r : Option (Both G₁ G₂)) → is_some (m.sample (m.meet a.first b.first)) ≡ false
-      → option_map (λ p. p) r ≡ slice_get (map (λ p. both p a.second) (numbered (m.parts a.first b.first))) k → r ≡ slice_get (pair_parts m n a b) k
-  rest_first r dead found =
-      sym (option_map_id r) ∙ found ∙ nth_first (λ p. both p a.second) (m.parts a.first b.first) k fits
-      ∙ sym (ap (λ ps. slice_get ps k) (parts false dead ∙ append-nil _))
+  -- a part of the first run
+  pub rest_first : (p : G₁) → Some p ≡ slice_get (m.parts a.first b.first) k → Some (both p a.second) ≡ slice_get (pair_parts m n a b) k
+  rest_first p found =
+      sym (ap (λ ps. slice_get ps k) (parts (is_some (m.sample (m.meet a.first b.first))) refl)
+      ∙ nth_front (first_parts m n a b) _ k (both p a.second) (slice_get-map (λ p. both p a.second) (m.parts a.first b.first) k ∙ ap (option_map (λ p. both p a.second)) (sym found)))
 
-  pub rest_both : (r : Option (Both G₁ G₂)) → is_some (m.sample (m.meet a.first b.first)) ≡ true
-      → option_map (λ p. p) r ≡ slice_get (map (λ p. both p a.second) (numbered (m.parts a.first b.first)) ++ map (both (m.meet a.first b.first)) (numbered (n.parts a.second b.second))) k
-      → r ≡ slice_get (pair_parts m n a b) k
-  rest_both r live found =
-      sym (option_map_id r) ∙ found ∙ nth_runs (λ p. both p a.second) (both (m.meet a.first b.first)) (m.parts a.first b.first) (n.parts a.second b.second) k fits
-      ∙ sym (ap (λ ps. slice_get ps k) (parts true live))
+  module _ (none : slice_get (m.parts a.first b.first) k ≡ None) where
+    -- the second run, from its own place
+    late_parts : (t : Bool) → is_some (m.sample (m.meet a.first b.first)) ≡ t
+        → slice_get (pair_parts m n a b) k ≡ slice_get (cond t (map (both (m.meet a.first b.first)) (n.parts a.second b.second)) []) (k - length (m.parts a.first b.first))
+    late_parts t h =
+        let same = length-map (m.parts a.first b.first) (λ p. both p a.second) in
+        ap (λ ps. slice_get ps k) (parts t h)
+        ∙ nth_behind (first_parts m n a b) _ k (omega (arith, same, nth_beyond (m.parts a.first b.first) k none))
+        ∙ ap (λ l. slice_get (cond t (map (both (m.meet a.first b.first)) (n.parts a.second b.second)) []) (k - l)) same
+
+    pub rest_none : is_some (m.sample (m.meet a.first b.first)) ≡ false → None ≡ slice_get (pair_parts m n a b) k
+    rest_none dead = sym (late_parts false dead)
+
+    pub rest_second : is_some (m.sample (m.meet a.first b.first)) ≡ true → (before : ℕ) → before ≡ length (m.parts a.first b.first)
+        → (late : Option G₂) → late ≡ slice_get (n.parts a.second b.second) (k - before) → option_map (both (m.meet a.first b.first)) late ≡ slice_get (pair_parts m n a b) k
+    rest_second live before counted late answer =
+        ap (option_map (both (m.meet a.first b.first))) (answer ∙ ap (λ l. slice_get (n.parts a.second b.second) (k - l)) counted)
+        ∙ sym (late_parts true live ∙ slice_get-map (both (m.meet a.first b.first)) (n.parts a.second b.second) (k - length (m.parts a.first b.first)))

@@ -5,6 +5,7 @@ ghost use Rattle.guards.specs.Flags.{flags_model, flags_overlap, is_pattern, no_
 ghost use Rattle.std.specs.List.{slice_get};
 ghost use Rattle.guards.specs.FlagLaws.{flag_laws, flags_read_as_empty};
 
+use super::conversions::makes_pattern;
 use super::{FlagPattern, FlagRow, LAST_FLAGS, NO_FLAGS, WEIGHTS};
 use crate::algebra::only;
 use crate::rows::RowGuard;
@@ -92,8 +93,13 @@ impl RowGuard for FlagPattern {
         FlagRow { care: 0, value: 0 }
     }
 
+    #[tactic(auto, using(crate::specs::FlagTests::pattern_test))]
     fn read(row: FlagRow) -> Option<FlagPattern> {
-        FlagPattern::try_from(row).ok()
+        let FlagRow { care, value } = row;
+        if !makes_pattern(care, value) {
+            return None;
+        }
+        Some(FlagPattern { care, value })
     }
 
     // The entry agrees with the value on every care bit.

@@ -5,9 +5,10 @@ ghost use Rattle.guards.specs.declared.malformed.Malformed.TheVariants.{Flags};
 
 use super::{FlagEntry, FlagGuard, FlagPattern, FlagRow, LAST_FLAGS, NO_FLAGS};
 use crate::malformed::Malformed;
+use crate::rows::RowGuard;
 
 // Whether care has five bits, and the value no bit outside care.
-fn makes_pattern(care: u8, value: u8) -> bool
+pub(super) fn makes_pattern(care: u8, value: u8) -> bool
     ensures { result ≡ (nat_le care 31 && bit_and value care == value) }
 {
     care <= LAST_FLAGS && value & care == value
@@ -40,13 +41,8 @@ impl TryFrom<FlagRow> for FlagPattern {
 
     ghost try_from_gives = { Makes };
 
-    #[tactic(auto, using(crate::specs::FlagTests::pattern_test))]
     fn try_from(row: FlagRow) -> Result<FlagPattern, Malformed> {
-        let FlagRow { care, value } = row;
-        if !makes_pattern(care, value) {
-            return Err(Malformed::Flags);
-        }
-        Ok(FlagPattern { care, value })
+        FlagPattern::read(row).ok_or(Malformed::Flags)
     }
 }
 

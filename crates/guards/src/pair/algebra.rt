@@ -39,21 +39,19 @@ impl<L: Algebra, R: Algebra> Algebra for Pair<L, R> {
     }
 
     // Each part of the first side beside the second side of `a`, then the meet of the first sides beside each part of the second.
+    // The part is asked for by its number in its run, so that what stands before it costs no more than a count.
     fn rest(&self, a: Self::Guard, b: Self::Guard, part: usize) -> Option<Self::Guard> {
         self.sample(a)?;
-        let second = a.second;
-        let mut firsts = Parts::new(&self.first, a.first, b.first).map(move |first| Both {
-            first,
-            second,
-        });
-        let met = self.first.meet(a.first, b.first);
-        if self.first.sample(met).is_none() {
-            return firsts.nth(part);
+        if let Some(first) = self.first.rest(a.first, b.first, part) {
+            return Some(Both {
+                first,
+                second: a.second,
+            });
         }
-        let seconds = Parts::new(&self.second, a.second, b.second).map(move |second| Both {
-            first: met,
-            second,
-        });
-        firsts.chain(seconds).nth(part)
+        let met = self.first.meet(a.first, b.first);
+        self.first.sample(met)?;
+        let firsts = Parts::new(&self.first, a.first, b.first).count();
+        let second = self.second.rest(a.second, b.second, part - firsts)?;
+        Some(Both { first: met, second })
     }
 }

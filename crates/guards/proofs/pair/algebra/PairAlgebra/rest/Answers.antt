@@ -1,31 +1,35 @@
-use Rattle.std.proofs.Common.{rules, sym, ◌∙◌, ap, is_some}
-use borrow.Author.Tests.{tests}
-use Rattle.std.proofs.lemmas.Iterator.{YieldsList-from_map}
-use Rattle.std.proofs.lemmas.Iterator.Consumers.{YieldsList-from_first, YieldsList-from_chain, YieldsList-at, nth_from_yields_List}
-use Rattle.guards.specs.Algebra.{numbered}
+use Rattle.std.proofs.Common.{length, inl, sym, ◌∙◌, ap, ap₂, is_some, arith}
+use Rattle.std.specs.Option.{option_map}
 use Rattle.guards.specs.Pair.{both}
-use Rattle.guards.proofs.PairParts.{rest_first, rest_both}
+use Rattle.guards.proofs.PairParts.{all_taken, few_parts, rest_second}
 use Rattle.guards.proofs.pair.algebra.PairAlgebra.rest.Goals as goal
 
-pub returns-then-is_none : goal.returns-then-is_none
-returns-then-is_none g c =
+pub count-firsts-requires-clause-fits : goal.count-firsts-requires-clause-fits
+count-firsts-requires-clause-fits g c =
+    inl (omega (arith, few_parts ((g.L.Algebra.model c.args.self.now.first).parts c.args.a.first c.args.b.first) c.args.part (sym c.rest.ensures ∙ c.in_default.is) c.ranges.part.fits, ap length c.new.ensures))
+
+pub overflow_sub-part : goal.overflow_sub-part
+overflow_sub-part g c =
+    omega (arith, few_parts ((g.L.Algebra.model c.args.self.now.first).parts c.args.a.first c.args.b.first) c.args.part (sym c.rest.ensures ∙ c.in_default.is) c.ranges.part.fits, ap length c.new.ensures, c.count-firsts.ensures.bound)
+
+pub returns-in_err-second : goal.returns-in_err-second
+returns-in_err-second g c =
     let m = g.L.Algebra.model c.args.self.now.first in
-    let n = g.R.Algebra.model c.args.self.now.second in
     let a = c.args.a in
-    let b = c.args.b in
-    rest_first m n a b c.args.part c.ranges.part.fits (ap is_some (sym c.sample.ensures ∙ c.in_ok-sample.was)) c.nth.result (ap is_some (ap m.sample (sym c.meet-met.ensures) ∙ sym c.sample-2.ensures) ∙ c.if-is_none.ensures)
-    (nth_from_yields_List c.nth.result c.nth.new.self c.args.part c.nth.ensures.ran
-    (YieldsList-from_map _ (λ p. both p a.second) (YieldsList-from_first (λ p. p) (λ s. s) (numbered (m.parts a.first b.first)) cc) c.map-firsts.ensures.closure (λ x r q k. search (rules, tests))))
+    let none = sym c.rest.ensures ∙ c.in_default.is in
+    let ran = c.count-firsts.ensures.ran in
+    c.from_residual-in_err-second.ensures ∙ ap (option_map (both (m.meet a.first c.args.b.first))) (sym c.in_err-second.was)
+    ∙ rest_second m (g.R.Algebra.model c.args.self.now.second) a c.args.b c.args.part (ap is_some (sym c.sample.ensures ∙ c.in_ok-sample.was)) none
+    (ap is_some (ap m.sample (sym c.meet-met.ensures) ∙ sym c.sample-2.ensures ∙ c.in_ok-sample-2.was)) c.count-firsts.result
+    (ran.2 ∙ all_taken (m.parts a.first c.args.b.first) c.args.part none c.ranges.part.fits ran.0 c.new.result ran.1.0 ran.1.1 c.new.ensures) c.rest-2.result c.rest-2.ensures
 
 pub returns : goal.returns
 returns g c =
     let m = g.L.Algebra.model c.args.self.now.first in
-    let n = g.R.Algebra.model c.args.self.now.second in
     let a = c.args.a in
-    let b = c.args.b in
-    rest_both m n a b c.args.part c.ranges.part.fits (ap is_some (sym c.sample.ensures ∙ c.in_ok-sample.was)) c.nth-2.result (ap is_some (ap m.sample (sym c.meet-met.ensures) ∙ sym c.sample-2.ensures) ∙ c.if-is_none.ensures)
-    (nth_from_yields_List c.nth-2.result c.nth-2.new.self c.args.part c.nth-2.ensures.ran
-    (YieldsList-from_chain
-    (YieldsList-at c.chain.ensures.first (YieldsList-from_map _ (λ p. both p a.second) (YieldsList-from_first (λ p. p) (λ s. s) (numbered (m.parts a.first b.first)) cc) c.map-firsts.ensures.closure (λ x r q k. search (rules, tests))))
-    (YieldsList-at c.chain.ensures.second (YieldsList-from_map _ (both (m.meet a.first b.first)) (YieldsList-from_first (λ p. p) (λ s. s) (numbered (n.parts a.second b.second)) cc) c.map-seconds.ensures.closure (λ x r q k. search (rules, tests))))
-    c.chain.ensures.first_done c.chain.ensures.second_done))
+    let none = sym c.rest.ensures ∙ c.in_default.is in
+    let ran = c.count-firsts.ensures.ran in
+    ap₂ (λ x o. option_map (both x) o) c.meet-met.ensures (sym c.in_ok-second.was)
+    ∙ rest_second m (g.R.Algebra.model c.args.self.now.second) a c.args.b c.args.part (ap is_some (sym c.sample.ensures ∙ c.in_ok-sample.was)) none
+    (ap is_some (ap m.sample (sym c.meet-met.ensures) ∙ sym c.sample-2.ensures ∙ c.in_ok-sample-2.was)) c.count-firsts.result
+    (ran.2 ∙ all_taken (m.parts a.first c.args.b.first) c.args.part none c.ranges.part.fits ran.0 c.new.result ran.1.0 ran.1.1 c.new.ensures) c.rest-2.result c.rest-2.ensures
