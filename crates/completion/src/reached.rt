@@ -6,6 +6,7 @@ ghost use Rattle.automata.specs.Limits.{most_states, mark_bytes};
 ghost use Rattle.tables.specs.Machines.{machine_of};
 
 use crate::reaching::ClauseGraph;
+use automata::limits::STATES;
 use guards::algebra::Algebra;
 use tables::lists::Full;
 use tables::searching::search;
@@ -30,7 +31,7 @@ impl<'a, 'w, A: Algebra> ReachedStates<'a, 'w, A> {
         requires room { most_states ≤ length buffer.old }
         ensures { result.graph ≡ graph.entry }
     {
-        let mut work = Worklist::new(marks, buffer);
+        let mut work = Worklist::with_places(marks, buffer, STATES);
         match search(&graph, 0, &mut work) {
             Ok(()) => ReachedStates { graph, work },
             // All states have room.

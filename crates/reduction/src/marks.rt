@@ -1,8 +1,8 @@
 // Marks of separation: the round that separates each two states.
-ghost use Rattle.std.specs.Prelude.{◌≡◌, ℕ, ◌<◌, ◌≤◌, ◌&&◌, length, Some, if◌then◌else◌, ◌==◌};
+ghost use Rattle.std.specs.Prelude.{◌≡◌, ℕ, ◌<◌, ◌≤◌, not, ◌&&◌, length, Some, if◌then◌else◌, ◌==◌};
 ghost use Rattle.automata.specs.Limits.{most_states, most_rounds, mark_bytes};
 ghost use Rattle.tables.specs.Endings.{holds};
-ghost use Rattle.reduction.specs.Marks.{apart_by, first_round, round_at};
+ghost use Rattle.reduction.specs.Marks.{apart_by, first_round, in_round, round_at};
 
 use automata::limits::{MARKS, STATES};
 use std::marker::Model;
@@ -55,6 +55,24 @@ impl<'a> PairMarks<'a> {
         ensures { result ≡ apart_by self.now p q }
     {
         self.round(p, q).is_some()
+    }
+
+    // Whether no round separates two states below the limit. This and the next serve the pairs of moves that a round goes through:
+    // all that they name lies below the limit, so that it is not tested again.
+    pub(crate) fn is_unmarked(&self, p: usize, q: usize) -> bool
+        requires { (p < most_states) × (q < most_states) }
+        ensures { result ≡ not (apart_by self.now p q) }
+    {
+        self.bytes[pair_place(p, q)] == 0
+    }
+
+    // Whether the round separates two states below the limit.
+    pub(crate) fn is_marked_in(&self, p: usize, q: usize, round: usize) -> bool
+        requires states { (p < most_states) × (q < most_states) }
+        requires small { round < most_rounds }
+        ensures { result ≡ in_round self.now round p q }
+    {
+        usize::from(self.bytes[pair_place(p, q)]) == round + 1
     }
 
     // Marks two states as separated in the round.

@@ -3,6 +3,7 @@ ghost use Rattle.std.specs.Prelude.{◌≡◌, ◌+◌, ◌<◌, ◌≤◌, fals
 ghost use Rattle.std.specs.List.{list_any};
 ghost use Rattle.automata.specs.Limits.{most_states, most_rounds, mark_bytes};
 ghost use Rattle.automata.specs.Rounds.{fit, some_fit};
+ghost use Rattle.automata.specs.Running.{stray};
 ghost use Rattle.tables.specs.Machines.{machine_of};
 ghost use Rattle.reduction.specs.Marks.{in_round};
 ghost use Rattle.reduction.specs.Rounds.{separates, NextMarks, RoundMarks};
@@ -26,11 +27,12 @@ struct NextRound<'a, A: Algebra> {
 impl<'a, A: Algebra> NextRound<'a, A> {
     // Whether the two moves separate the states that they go from.
     fn separates(&self, marks: &PairMarks, first: &Move<A::Guard>, second: &Move<A::Guard>) -> bool
+        requires inside { (stray most_states first.now ≡ false) × (stray most_states second.now ≡ false) }
         ensures { let s = self.now in result ≡ separates (A.model s.alg.now) marks.now s.round first.now second.now }
     {
         first.from != second.from
-            && !marks.is_apart(first.from, second.from)
-            && marks.round(first.to, second.to) == Some(self.round)
+            && marks.is_unmarked(first.from, second.from)
+            && marks.is_marked_in(first.to, second.to, self.round)
             && self
                 .alg
                 .sample(self.alg.meet(first.guard, second.guard))
@@ -44,7 +46,7 @@ impl<'a, A: Algebra> NextRound<'a, A> {
         first: &Move<A::Guard>,
         second: &Move<A::Guard>,
     ) -> bool
-        requires states { (first.now.from < most_states) × (second.now.from < most_states) }
+        requires inside { (stray most_states first.now ≡ false) × (stray most_states second.now ≡ false) }
         ensures next { let s = self.now in let fits = fit (A.model s.alg.now) (in_round marks.old s.round) in
             NextMarks s.round (λ p q. fits p q first.now second.now) marks.old marks.new }
         ensures same { result ≡ false → marks.new ≡ marks.old }
@@ -58,7 +60,7 @@ impl<'a, A: Algebra> NextRound<'a, A> {
 
     // Marks by the first move with each move of the machine; whether it marks any states.
     fn mark_by(&self, marks: &mut PairMarks, first: &Move<A::Guard>) -> bool
-        requires states { first.now.from < most_states }
+        requires inside { stray most_states first.now ≡ false }
         ensures next { let s = self.now in let fits = fit (A.model s.alg.now) (in_round marks.old s.round) in
             NextMarks s.round (λ p q. list_any (fits p q first.now) s.machine.now.moves.now) marks.old marks.new }
         ensures same { result ≡ false → marks.new ≡ marks.old }

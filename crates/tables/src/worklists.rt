@@ -1,5 +1,5 @@
 // Worklists: the nodes that a search has found, in order, each once, and how far it has visited them.
-ghost use Rattle.std.specs.Prelude.{◌≡◌, ◌≤◌, [], ◌∷◌, length, IfSome};
+ghost use Rattle.std.specs.Prelude.{◌≡◌, ◌<◌, ◌≤◌, [], ◌∷◌, length, IfSome};
 ghost use Rattle.guards.specs.Lists.{Member};
 ghost use Rattle.automata.specs.Limits.{most_states, mark_bytes};
 ghost use Rattle.automata.specs.Search.{place_of};
@@ -7,7 +7,7 @@ ghost use Rattle.tables.specs.Worklists.{Finds, Visits};
 
 use crate::lists::{Full, SliceVec};
 use crate::nodes::Node;
-use automata::limits::STATES;
+use automata::limits::{MARKS, STATES};
 use std::marker::Model;
 
 // Each mark is one more than the place of its node, or 0 where the node is not found: the caller lends a byte a node, so that a
@@ -36,7 +36,18 @@ impl<'a, N: Node> Worklist<'a, N> {
         requires room { most_states ≤ length buffer.old }
         ensures { result ≡ record { found = []; visited = 0 } }
     {
-        marks.fill(0);
+        Worklist::with_places(marks, buffer, MARKS)
+    }
+
+    // The same, of nodes whose marks all stand below that place: no other mark is cleared, however many are lent.
+    pub fn with_places(marks: &'a mut [u8], buffer: &'a mut [N], places: usize) -> Worklist<'a, N>
+        requires bytes { mark_bytes ≤ length marks.old }
+        requires room { most_states ≤ length buffer.old }
+        requires few { places ≤ mark_bytes }
+        requires below { (x : N) → N.inside x → N.place x < places }
+        ensures { result ≡ record { found = []; visited = 0 } }
+    {
+        marks[..places].fill(0);
         Worklist {
             marks,
             found: SliceVec::with_room(buffer, STATES),
