@@ -3,11 +3,10 @@ use Rattle.std.proofs.Common.{◌≡◌, ℕ, zero, suc, ◌-◌, ◌<◌, ◌�
 use lib.ListN.{length-map}
 use Rattle.std.specs.Option.{option_map}
 use Rattle.std.proofs.lemmas.Bool.{both_ways}
-use Rattle.std.proofs.lemmas.Iterator.{items_from_drains}
-use Rattle.std.proofs.lemmas.Iterator.Consumers.{YieldsList-from_first}
+use Rattle.std.proofs.lemmas.Iterator.{YieldsList, items_from_drains}
 use Rattle.std.proofs.lemmas.List.{take_all}
 use Rattle.std.proofs.lemmas.Option.{slice_get-map}
-use Rattle.std.specs.Iterator.{YieldsFirst, YieldsThen}
+use Rattle.std.specs.Iterator.{YieldsThen}
 use Rattle.std.specs.List.{slice_get}
 use Rattle.guards.specs.Algebra.{Model, numbered}
 use Rattle.guards.specs.Pair.{both, both_some, first_parts, pair_parts}
@@ -35,13 +34,13 @@ few_parts ps k none fits =
     let few = nth_beyond ps k none in
     (ap length (take_all (2 ^ 64) ps (omega (arith, few, fits))), few)
 
--- a run over the numbered parts takes all of them
-pub all_taken : {G : Type 0} (ps : List G) (k : ℕ) → slice_get ps k ≡ None → k < 2 ^ 64 → (xs from left : List G)
-    → YieldsThen (YieldsFirst (λ s. s)) from xs None left → from ≡ numbered ps → length xs ≡ length ps
-all_taken ps k none fits xs from left run whole =
-    sym (length-map xs (λ p. p))
-    ∙ ap length (items_from_drains xs (run.0, run.1, λ _. (left, run.2)) (YieldsList-from_first (λ p. p) (λ s. s) (numbered ps) whole))
-    ∙ (few_parts ps k none fits).0
+-- a run over the numbered parts up to that number takes all of them
+pub all_taken : {S G : Type 0} {steps : S → Option G → S → Type 0} (ps : List G) (k : ℕ) → slice_get ps k ≡ None → k < 2 ^ 64 → (from left : S) (xs : List G)
+    → YieldsThen steps from xs None left → YieldsList steps (λ p. p) from (take k (numbered ps)) → length xs ≡ length ps
+all_taken ps k none fits from left xs run whole =
+    let few = few_parts ps k none fits in
+    sym (length-map xs (λ p. p)) ∙ ap length (items_from_drains xs (run.0, run.1, λ _. (left, run.2)) whole)
+    ∙ ap length (take_all k (numbered ps) (omega (arith, few))) ∙ few.0
 
 both_live : {X Y : Type 0} (x : Option X) (y : Option Y) → is_some (both_some x y) ≡ (is_some x && is_some y)
 both_live None y = refl

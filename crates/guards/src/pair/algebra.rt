@@ -50,7 +50,7 @@ impl<L: Algebra, R: Algebra> Algebra for Pair<L, R> {
         }
         let met = self.first.meet(a.first, b.first);
         self.first.sample(met)?;
-        let firsts = Parts::new(&self.first, a.first, b.first).count();
+        let firsts = Parts::new(&self.first, a.first, b.first).take(part).count();
         let second = self.second.rest(a.second, b.second, part - firsts)?;
         Some(Both { first: met, second })
     }
