@@ -1,15 +1,22 @@
 -- Placing the reached states one by one.
-use Rattle.std.proofs.Common.{◌≡◌, ℕ, ◌<◌, false, ◌⊎◌, ◌++◌, List, length, get_or, take, drop, sym, ap, inl, inr, arith}
+use Rattle.std.proofs.Common.{◌≡◌, ℕ, ◌<◌, false, ◌⊎◌, ◌++◌, List, length, get_or, take, drop, sym, ap, ap₂, ◌∙◌, inl, inr, arith}
+use Rattle.std.proofs.lemmas.List.{append_assoc}
 use Rattle.std.specs.List.{flat_map, list_all}
 use Rattle.guards.specs.Algebra.{Model}
-use Rattle.automata.specs.Checking.{placed}
+use Rattle.automata.specs.Checking.{placed, rest}
 use Rattle.automata.specs.Machine.{Machine}
 use Rattle.automata.specs.declared.moves.Move.{Move}
 use Rattle.automata.proofs.Appending.{append_short}
 use Rattle.automata.proofs.Loops.{every_miss}
 use Rattle.automata.proofs.Places.{read_itself}
 use Rattle.tables.specs.Lists.{Held}
-use Rattle.completion.specs.Placing.{fits_at}
+use Rattle.completion.specs.Placing.{fits_at, lines_of, sunk}
+
+-- behind what stands in front, a state's lines and then its rest are what it places
+pub state_built : {E G : Type 0} (alg : Model E G) (M : Machine G) (p : ℕ) (front built : List (Move G)) (gs : List G)
+    → built ≡ front ++ lines_of alg M p → gs ≡ rest alg M p → built ++ sunk alg M p gs ≡ front ++ placed alg M p
+state_built alg M p front built gs lines is =
+    ap₂ (λ xs ys. xs ++ sunk alg M p ys) lines is ∙ append_assoc front (lines_of alg M p) (sunk alg M p (rest alg M p))
 
 -- where the state at place i is not placed, the states are not
 pub state_unplaced : {E G : Type 0} (alg : Model E G) (M : Machine G) (states : List ℕ) (i : ℕ) (old held : Held (Move G))

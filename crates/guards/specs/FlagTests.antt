@@ -122,3 +122,7 @@ overlap_test a b ha hb =
 -- the numbers of a pattern make a guard
 pub pattern_made : (g : FlagPattern) → is_pattern (pattern_row g) ≡ true
 pattern_made g = pattern_test (pattern_row g) ∙ and_from _ _ (le-leb g.care 31 g.small) (eq-eqb (bit_and g.value g.care) g.value g.within)
+
+-- t is the code's answer at the rows that a and b were read as
+pub overlaps : (x y a b : FlagRow) → x ≡ a → y ≡ b → is_pattern a ≡ true → is_pattern b ≡ true → (t : Bool) → t ≡ shared_test x y → flags_overlap a b ≡ t
+overlaps x y a b xa yb ha hb t h = overlap_test a b ha hb ∙ sym (h ∙ ap₂ shared_test xa yb)
