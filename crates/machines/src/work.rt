@@ -5,21 +5,23 @@ use automata::moves::Move;
 use automata::pairs::StatePair;
 use std::marker::Model;
 
-// Clauses see how many places each has; what stands in them is of no account.
+// Clauses see how many places each has; what stands in them is of no account. Each is lent for a time of its own, so that tables
+// which come from different borrows can be lent together.
 #[derive(Drop)]
-pub struct WorkTables<'a, G> {
+pub struct WorkTables<'spare, 'marks, 'parts, 'others, 'pairs, G> {
     // Moves of a machine that is made.
-    pub spare: &'a mut [Move<G>],
+    pub spare: &'spare mut [Move<G>],
     // A byte for each pair of states.
-    pub marks: &'a mut [u8],
+    pub marks: &'marks mut [u8],
     // The guards of a rest, and of the next.
-    pub parts: &'a mut [G],
-    pub others: &'a mut [G],
+    pub parts: &'parts mut [G],
+    pub others: &'others mut [G],
     // The pairs of states of a product.
-    pub pairs: &'a mut [StatePair],
+    pub pairs: &'pairs mut [StatePair],
 }
 
-impl<'a, G> Model for WorkTables<'a, G> {
+impl<'spare, 'marks, 'parts, 'others, 'pairs, G> Model
+    for WorkTables<'spare, 'marks, 'parts, 'others, 'pairs, G> {
     ghost use Rattle.std.specs.Prelude.{length};
     ghost use Rattle.machines.specs.Sizes.{Sizes};
 
