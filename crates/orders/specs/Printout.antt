@@ -1,6 +1,5 @@
 -- The text of each line of a printout, without its newline.
 use Rattle.std.specs.Prelude.{ℕ, true, false, List, ◌++◌, codes, decimal}
-use Rattle.automata.specs.Refusals.{told}
 use Rattle.orders.specs.declared.printout.Line.{Line}
 use Rattle.orders.specs.declared.printout.Line.TheVariants.{Refused, Counts, State, Counted}
 
@@ -9,7 +8,7 @@ abbrev pub spaced : ℕ → List ℕ → List ℕ
 spaced n later = decimal n ++ (codes " " ++ later)
 
 abbrev pub text : Line → List ℕ
-text (Refused place why) = codes "record " ++ (decimal place ++ (codes " refusal " ++ decimal (told why).number))
+text (Refused place number) = codes "record " ++ (decimal place ++ (codes " refusal " ++ decimal number))
 text (Counts states moves) = codes "states " ++ (decimal states ++ (codes " moves " ++ decimal moves))
 text (State number true) = codes "state " ++ (decimal number ++ codes " end")
 text (State number false) = codes "state " ++ (decimal number ++ codes " no")

@@ -13,21 +13,12 @@ use std::fmt;
 // One line of a printout.
 #[derive(Clone, Copy)]
 pub enum Line {
-    // A record that was refused, and why.
-    Refused {
-        place: usize,
-        why: Refusal<ActivityEntry>,
-    },
+    // A record that was refused, and the refusal's number.
+    Refused { place: usize, number: u8 },
     // How many states and how many counted moves the rule has.
-    Counts {
-        states: usize,
-        moves: usize,
-    },
+    Counts { states: usize, moves: usize },
     // A state of the rule, and whether it is an ending.
-    State {
-        number: usize,
-        is_ending: bool,
-    },
+    State { number: usize, is_ending: bool },
     // A counted move of the rule.
     Counted(Move<ActivityGuard>),
 }
@@ -35,9 +26,12 @@ pub enum Line {
 impl Line {
     // The line of a refused record.
     pub fn refused(place: usize, why: &Refusal<ActivityEntry>) -> Line
-        ensures { result ≡ Line.Refused place why.now }
+        ensures { result ≡ Line.Refused place (told why.now).number }
     {
-        Line::Refused { place, why: *why }
+        Line::Refused {
+            place,
+            number: why.number(),
+        }
     }
 
     // The line of the rule's counts.
@@ -67,10 +61,7 @@ impl fmt::Display for Line {
 
     fn fmt<W: fmt::Write>(&self, f: &mut fmt::Formatter<W>) -> fmt::Result {
         match *self {
-            Line::Refused { place, why } => {
-                let number = why.number();
-                write!(f, "record {place} refusal {number}")
-            }
+            Line::Refused { place, number } => write!(f, "record {place} refusal {number}"),
             Line::Counts { states, moves } => write!(f, "states {states} moves {moves}"),
             Line::State {
                 number,
