@@ -159,3 +159,37 @@ fn least_sizes(rt: HostRuntime) {
         sizes_fit(&rt, lengths, false);
     }
 }
+
+// What a check of a clause without moves leaves, with no pairs and tables that are each lent for a time of their own; the marks past
+// the least size are written after it.
+fn check_lent(
+    rt: &impl Abort,
+    spare: &mut [Move<MinuteRow>],
+    marks: &mut [u8],
+    parts: &mut [MinuteRow],
+    others: &mut [MinuteRow],
+) -> Left {
+    assert!(rt; MARKS < marks.len());
+    let (marks, later) = marks.split_at_mut(MARKS);
+    let mut work = WorkTables {
+        spare,
+        marks,
+        parts,
+        others,
+        pairs: &mut [],
+    };
+    let left = check_in(OpenClause::open(&MINUTES), &mut [GARBAGE; MOVES], &mut work);
+    later[0] = 1;
+    left
+}
+
+#[test]
+fn tables_of_different_borrows(rt: HostRuntime) {
+    let mut spare = [GARBAGE; MOVES];
+    let mut marks = [7u8; MARKS + 1];
+    let mut parts = [GARBAGE.guard; PARTS];
+    let mut others = [GARBAGE.guard; PARTS];
+    let left = check_lent(&rt, &mut spare, &mut marks, &mut parts, &mut others);
+    assert_eq!(rt; left.refusal, None);
+    assert_eq!(rt; marks[MARKS], 1);
+}
