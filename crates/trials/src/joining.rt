@@ -21,17 +21,26 @@ fn new_rule(table: &mut Table) -> Rule {
     }
 }
 
-// Joins a checked clause to the rule; the rule as it is then, and why it was refused, if it was. The tests look at both, here and
-// below, and each argument at its own place.
+// Joins a checked clause to the rule, with no rest lists and tables that are each lent for a time of their own; the rule as it is
+// then, and why it was refused, if it was. The tests look at both, here and below, and each argument at its own place.
 fn join_checked(
     rule: Rule,
     table: &mut Table,
     way: JoinBy,
     clause: CheckedClause,
     clause_table: &Table,
-    work: &mut WorkTables<MinuteRow>,
+    spare: &mut [Move<MinuteRow>],
+    marks: &mut [u8],
+    pairs: &mut [StatePair],
 ) -> (Rule, Option<Refusal<u16>>) {
-    match rule.join(&MINUTES, clause, way, table, clause_table, work) {
+    let mut work = WorkTables {
+        spare,
+        marks,
+        parts: &mut [],
+        others: &mut [],
+        pairs,
+    };
+    match rule.join(&MINUTES, clause, way, table, clause_table, &mut work) {
         Ok(rule) => (rule, None),
         Err(Refused { value, why }) => {
             let Unjoined { rule, clause } = value;
@@ -41,7 +50,8 @@ fn join_checked(
     }
 }
 
-// Checks the clause of the states, the ending and the lines and joins it to the rule.
+// Checks the clause of the states, the ending and the lines and joins it to the rule. Each of the two calls has tables of its own, of
+// which every place is filled.
 fn join_lines(
     rule: Rule,
     table: &mut Table,
@@ -55,17 +65,25 @@ fn join_lines(
     let mut marks = [7u8; MARKS];
     let mut parts = [GARBAGE.guard; PARTS];
     let mut others = [GARBAGE.guard; PARTS];
-    let mut pairs = [StatePair { rule: 7, clause: 7 }; PAIRS];
     let mut work = WorkTables {
         spare: &mut spare,
         marks: &mut marks,
         parts: &mut parts,
         others: &mut others,
-        pairs: &mut pairs,
+        pairs: &mut [],
     };
     let clause = clause_of(states, ending, &mut clause_table, lines);
     match clause.check(&MINUTES, &mut clause_table, &mut work) {
-        Ok(clause) => join_checked(rule, table, way, clause, &clause_table, &mut work),
+        Ok(clause) => join_checked(
+            rule,
+            table,
+            way,
+            clause,
+            &clause_table,
+            &mut [whole_move(7, 7); MOVES],
+            &mut [7; MARKS],
+            &mut [StatePair { rule: 7, clause: 7 }; PAIRS],
+        ),
         Err(Refused { value, why }) => {
             value.discard(&MINUTES);
             (rule, Some(why))
