@@ -31,7 +31,7 @@ fn try_sheet(table: &mut [Move<MinuteRow>]) -> Result<(Counts, bool, bool), Refu
     Ok((counts, endings.contains(0), endings.contains(1)))
 }
 
-// A new sheet asks for 1,024 places, writes the first and leaves the others.
+// A new sheet asks for 1,024 places, writes the first and leaves the others. A refusal is told with its number.
 #[test]
 fn new_sheet(rt: HostRuntime) {
     let fresh = Counts {
@@ -39,20 +39,21 @@ fn new_sheet(rt: HostRuntime) {
         moves: 1,
     };
     for (length, wanted, first) in [
-        (0, Err(Refusal::TooShort), GARBAGE),
-        (MOVES - 1, Err(Refusal::TooShort), GARBAGE),
+        (0, Err((Refusal::TooShort, 1)), GARBAGE),
+        (MOVES - 1, Err((Refusal::TooShort, 1)), GARBAGE),
         (MOVES, Ok((fresh, true, false)), whole_move(0, 0)),
         (MOVES + 1, Ok((fresh, true, false)), whole_move(0, 0)),
     ] {
         let mut table = [GARBAGE; MOVES + 1];
         assert!(rt; length <= table.len());
-        assert_eq!(rt; try_sheet(&mut table[..length]), wanted);
+        let sheet = try_sheet(&mut table[..length]);
+        assert_eq!(rt; sheet.map_err(|why| (why, why.number())), wanted);
         assert_eq!(rt; table[0], first);
         assert_eq!(rt; table[1], GARBAGE);
     }
 }
 
-// A clause of 63 states, and how many of the states asked for were refused as too many.
+// A clause of 63 states, and how many of the states asked for were refused as too many, with 2.
 fn full_clause() -> (OpenClause, usize) {
     let mut clause = OpenClause::open(&MINUTES);
     let mut refused = 0usize;
@@ -60,7 +61,7 @@ fn full_clause() -> (OpenClause, usize) {
         clause = match clause.add(&MINUTES) {
             Ok((clause, _)) => clause,
             Err(Refused { value, why }) => {
-                if why == Refusal::TooManyStates {
+                if (why == Refusal::TooManyStates) & (why.number() == 2) {
                     refused = refused.saturating_add(1);
                 }
                 value
@@ -157,7 +158,7 @@ fn writing(rt: HostRuntime) {
     }
 }
 
-// How many of 1,025 moves were written, and how many refused by the full table.
+// How many of 1,025 moves were written, and how many refused by the full table, with 4.
 fn fill(table: &mut [Move<MinuteRow>]) -> (usize, usize) {
     let mut clause = OpenClause::open(&MINUTES);
     let mut refused = 0usize;
@@ -165,7 +166,7 @@ fn fill(table: &mut [Move<MinuteRow>]) -> (usize, usize) {
         clause = match clause.write(&MINUTES, table, whole_move(0, 0)) {
             Ok(clause) => clause,
             Err(Refused { value, why }) => {
-                if why == Refusal::TableFull {
+                if (why == Refusal::TableFull) & (why.number() == 4) {
                     refused = refused.saturating_add(1);
                 }
                 value
