@@ -6,6 +6,7 @@ use automata::limits::{MARKS, MOVES, PAIRS, PARTS};
 use automata::moves::Move;
 use automata::pairs::StatePair;
 use automata::refusals::{Refusal, Refused};
+use guards::algebra::Algebra;
 use guards::minutes::{MINUTES, MinuteRow};
 use machines::clauses::{CheckedClause, Rule, Unjoined};
 use machines::work::WorkTables;
@@ -22,17 +23,19 @@ fn new_rule(table: &mut Table) -> Rule {
 }
 
 // Joins a checked clause to the rule, with no rest lists and tables that are each lent for a time of their own; the rule as it is
-// then, and why it was refused, if it was. The tests look at both, here and below, and each argument at its own place.
-fn join_checked(
+// then, and why it was refused, if it was. The tests look at both, here and below, and each argument at its own place. It takes
+// guards of any kind, since the compiler asks most of such a caller.
+fn join_checked<A: Algebra>(
+    alg: &A,
     rule: Rule,
-    table: &mut Table,
+    table: &mut [Move<A::Guard>],
     way: JoinBy,
     clause: CheckedClause,
-    clause_table: &Table,
-    spare: &mut [Move<MinuteRow>],
+    clause_table: &[Move<A::Guard>],
+    spare: &mut [Move<A::Guard>],
     marks: &mut [u8],
     pairs: &mut [StatePair],
-) -> (Rule, Option<Refusal<u16>>) {
+) -> (Rule, Option<Refusal<A::Entry>>) {
     let mut work = WorkTables {
         spare,
         marks,
@@ -40,11 +43,11 @@ fn join_checked(
         others: &mut [],
         pairs,
     };
-    match rule.join(&MINUTES, clause, way, table, clause_table, &mut work) {
+    match rule.join(alg, clause, way, table, clause_table, &mut work) {
         Ok(rule) => (rule, None),
         Err(Refused { value, why }) => {
             let Unjoined { rule, clause } = value;
-            clause.discard(&MINUTES);
+            clause.discard(alg);
             (rule, Some(why))
         }
     }
@@ -75,6 +78,7 @@ fn join_lines(
     let clause = clause_of(states, ending, &mut clause_table, lines);
     match clause.check(&MINUTES, &mut clause_table, &mut work) {
         Ok(clause) => join_checked(
+            &MINUTES,
             rule,
             table,
             way,
