@@ -14,6 +14,8 @@ mod flags;
 #[cfg(test)]
 mod joining;
 #[cfg(test)]
+mod lent_tables;
+#[cfg(test)]
 mod minutes;
 #[cfg(test)]
 mod pairs;
