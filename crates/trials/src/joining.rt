@@ -23,8 +23,8 @@ fn new_rule(table: &mut Table) -> Rule {
 }
 
 // Joins a checked clause to the rule, with no rest lists and tables that are each lent for a time of their own; the rule as it is
-// then, and why it was refused, if it was. The tests look at both, here and below, and each argument at its own place. It takes
-// guards of any kind, since the compiler asks most of such a caller.
+// then, and why it was refused, if it was. The tests look at both, here and below, and each argument at its own place. It is
+// generic, where the borrow check asks more than at one kind of guards.
 fn join_checked<A: Algebra>(
     alg: &A,
     rule: Rule,

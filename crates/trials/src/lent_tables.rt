@@ -9,8 +9,8 @@ use machines::clauses::OpenClause;
 use machines::work::WorkTables;
 use std::process::Abort;
 
-// Whether a clause without moves is checked, with no pairs and tables that are each lent for a time of their own. The marks past the
-// least size are written afterwards. It takes guards of any kind, since the compiler asks most of such a caller.
+// Whether a clause without moves is checked, with no pairs and tables that are each lent for a time of their own; the marks past the
+// least size are written afterwards. It is generic, where the borrow check asks more than at one kind of guards.
 fn check_lent<A: Algebra>(
     rt: &impl Abort,
     alg: &A,
