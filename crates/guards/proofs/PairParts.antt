@@ -1,14 +1,11 @@
 -- The part of a number in the rest of a pair, from its two runs.
-use Rattle.std.proofs.Common.{◌≡◌, ℕ, zero, suc, ◌-◌, ◌<◌, ◌≤◌, ◌^◌, Bool, true, false, cond, ◌&&◌, List, [], ◌∷◌, ◌++◌, map, length, take, is_some, Some, None, Option, refl, sym, ap, ap₂, ◌∙◌, arith}
+use Rattle.std.proofs.Common.{◌≡◌, ℕ, zero, suc, ◌-◌, ◌≤◌, min, Bool, true, false, cond, ◌&&◌, List, [], ◌∷◌, ◌++◌, map, length, is_some, Some, None, Option, refl, sym, ap, ap₂, ◌∙◌, arith}
 use lib.ListN.{length-map}
 use Rattle.std.specs.Option.{option_map}
 use Rattle.std.proofs.lemmas.Bool.{both_ways}
-use Rattle.std.proofs.lemmas.Iterator.{YieldsList, items_from_drains}
-use Rattle.std.proofs.lemmas.List.{take_all}
 use Rattle.std.proofs.lemmas.Option.{slice_get-map}
-use Rattle.std.specs.Iterator.{YieldsThen}
 use Rattle.std.specs.List.{slice_get}
-use Rattle.guards.specs.Algebra.{Model, numbered}
+use Rattle.guards.specs.Algebra.{Model}
 use Rattle.guards.specs.Pair.{both, both_some, first_parts, pair_parts}
 use Rattle.guards.specs.declared.pair.Both.{Both}
 
@@ -26,21 +23,6 @@ nth_behind : {X : Type 0} (xs ys : List X) (k : ℕ) → length xs ≤ k → sli
 nth_behind [] ys k h = ap (slice_get ys) (omega arith)
 nth_behind (x ∷ xs) ys zero h = absurd (omega arith)
 nth_behind (x ∷ xs) ys (suc k) h = nth_behind xs ys k (omega arith) ∙ ap (slice_get ys) (omega arith)
-
--- no part has that number: so all parts have a number, and are at most so many
-pub few_parts : {G : Type 0} (ps : List G) (k : ℕ) → slice_get ps k ≡ None → k < 2 ^ 64 → (length (numbered ps) ≡ length ps) × (length ps ≤ k)
-unfolding numbered
-few_parts ps k none fits =
-    let few = nth_beyond ps k none in
-    (ap length (take_all (2 ^ 64) ps (omega (arith, few, fits))), few)
-
--- a run over the numbered parts up to that number takes all of them
-pub all_taken : {S G : Type 0} {steps : S → Option G → S → Type 0} (ps : List G) (k : ℕ) → slice_get ps k ≡ None → k < 2 ^ 64 → (from left : S) (xs : List G)
-    → YieldsThen steps from xs None left → YieldsList steps (λ p. p) from (take k (numbered ps)) → length xs ≡ length ps
-all_taken ps k none fits from left xs run whole =
-    let few = few_parts ps k none fits in
-    sym (length-map xs (λ p. p)) ∙ ap length (items_from_drains xs (run.0, run.1, λ _. (left, run.2)) whole)
-    ∙ ap length (take_all k (numbered ps) (omega (arith, few))) ∙ few.0
 
 both_live : {X Y : Type 0} (x : Option X) (y : Option Y) → is_some (both_some x y) ≡ (is_some x && is_some y)
 both_live None y = refl
@@ -73,8 +55,9 @@ module _ {E₁ G₁ E₂ G₂ : Type 0} (m : Model E₁ G₁) (n : Model E₂ G�
     pub rest_none : is_some (m.sample (m.meet a.first b.first)) ≡ false → None ≡ slice_get (pair_parts m n a b) k
     rest_none dead = sym (late_parts false dead)
 
-    pub rest_second : is_some (m.sample (m.meet a.first b.first)) ≡ true → (before : ℕ) → before ≡ length (m.parts a.first b.first)
+    pub rest_second : is_some (m.sample (m.meet a.first b.first)) ≡ true → (before : ℕ) → before ≡ min (length (m.parts a.first b.first)) k
         → (late : Option G₂) → late ≡ slice_get (n.parts a.second b.second) (k - before) → option_map (both (m.meet a.first b.first)) late ≡ slice_get (pair_parts m n a b) k
     rest_second live before counted late answer =
-        ap (option_map (both (m.meet a.first b.first))) (answer ∙ ap (λ l. slice_get (n.parts a.second b.second) (k - l)) counted)
+        let all : before ≡ length (m.parts a.first b.first) = omega (arith, counted, nth_beyond (m.parts a.first b.first) k none) in
+        ap (option_map (both (m.meet a.first b.first))) (answer ∙ ap (λ l. slice_get (n.parts a.second b.second) (k - l)) all)
         ∙ sym (late_parts true live ∙ slice_get-map (both (m.meet a.first b.first)) (n.parts a.second b.second) (k - length (m.parts a.first b.first)))

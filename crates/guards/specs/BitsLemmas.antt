@@ -1,9 +1,9 @@
--- The bits of numbers: what `&`, `|`, `^`, `1 << k` and `(1 << n) - 1` do to each.
+-- The bits of numbers: what `&`, `|`, `^`, `!`, `1 << k` and `(1 << n) - 1` do to each.
 use Rattle.std.specs.Prelude.{◌≡◌, ℕ, zero, suc, ◌+◌, ◌-◌, ◌*◌, ◌%◌, ◌^◌, ◌<◌, min, max, cond, not, ◌&&◌, ◌||◌, ◌==◌, bit_and, bit_or, bit_xor, nat_eq, nat_lt}
-use Rattle.std.proofs.Common.{sym, ap, ap₂, ◌∙◌, ⊎_elim, arith}
+use Rattle.std.proofs.Common.{sym, ap, ap₂, ◌∙◌, ⊎_elim, arith, w8}
 use Rattle.std.specs.Int.{bit_at}
 use Rattle.std.proofs.lemmas.Nat.{pow_pos}
-use Rattle.std.proofs.lemmas.Nat.Bits.{and_pow, bit_at-lt, bit_at_and, bit_at_or, bit_at_xor, bit_at-pow_same, bit_at-pow_other, bit_at_ones, bit_at_ones_above}
+use Rattle.std.proofs.lemmas.Nat.Bits.{and_pow, bit_at-lt, bit_at_and, bit_at_or, bit_at_xor, bit_at_not, bit_at-pow_same, bit_at-pow_other, bit_at_ones, bit_at_ones_above}
 use Rattle.std.proofs.lemmas.Bool.{cases_lt, cases_eq, eq-eqb, ne_eqb, lt-ltb, le-ltb}
 use Rattle.std.proofs.lemmas.Bool.Decides.{nat_tests}
 use Rattle.guards.specs.Bits.{has}
@@ -42,6 +42,14 @@ has_xor k a b =
   where
     go : (x y z : ℕ) → x < 2 → y < 2 → z ≡ (x + y) % 2 → (z == 1) ≡ cond (y == 1) (not (x == 1)) (x == 1)
     go x y z h k e = grind (arith, nat_tests)
+
+-- what `!` does to the bits of a byte
+pub has_not : (k n : ℕ) → k < 8 → n < 2 ^ 8 → has (255 - n) (2 ^ k) ≡ not (has n (2 ^ k))
+has_not k n few small =
+    has_bit k (255 - n) ∙ go (bit_at n k) (bit_at (255 - n) k) (bit_at-lt n k) (bit_at_not w8 n k small few) ∙ sym (ap not (has_bit k n))
+  where
+    go : (x z : ℕ) → x < 2 → z ≡ 1 - x → (z == 1) ≡ not (x == 1)
+    go x z h e = grind (arith, nat_tests)
 
 -- a power of two has one bit
 pub has_one : (i k : ℕ) → has (2 ^ i) (2 ^ k) ≡ (k == i)

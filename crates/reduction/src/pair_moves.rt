@@ -24,7 +24,8 @@ fn is_joined<A: Algebra>(
             .is_some()
 }
 
-// The place of the first of the clause's moves that joins the rule's move at the pair.
+// The place of the first of the clause's moves that joins the rule's move at the pair. The rule's move is copied, so that its guard
+// is read once and not again beside each of the clause's.
 fn first_joined<A: Algebra>(
     alg: &A,
     pair: StatePair,
@@ -33,12 +34,11 @@ fn first_joined<A: Algebra>(
 ) -> Option<usize>
     ensures { result ≡ position (joins (A.model alg.now) pair rule_line.now) clause_moves.now }
 {
+    let rule_line = *rule_line;
     if rule_line.from != pair.rule {
         return None;
     }
-    clause_moves
-        .iter()
-        .position(|clause_line| is_joined(alg, pair, rule_line, clause_line))
+    clause_moves.iter().position(|clause_line| is_joined(alg, pair, &rule_line, clause_line))
 }
 
 // The meet of two moves, which leads to the pair that they lead to.
@@ -105,6 +105,8 @@ impl<'a, A: Algebra> Iterator for PairMoves<'a, A> {
 
     ghost remaining = { item_count (λ s. s) };
 
+    // Inlined, so that a search of pairs, which drops the guards, need not make them.
+    #[inline(always)]
     fn next(&mut self) -> Option<PairMove<A::Guard>> {
         while let Some((rule_line, rule_later)) = self.rule_left.split_first() {
             if let Some(place) = first_joined(self.alg, self.pair, rule_line, self.clause_left) {

@@ -82,9 +82,10 @@ impl RowGuard for MinuteRange {
     }
 
     fn part(self, other: MinuteRange, number: usize) -> Option<MinuteRow> {
-        self.below(other)
-            .into_iter()
-            .chain(self.above(other))
-            .nth(number)
+        match (self.below(other), number) {
+            (Some(low), 0) => Some(low),
+            (None, 0) | (Some(_), 1) => self.above(other),
+            _ => None,
+        }
     }
 }

@@ -1,9 +1,23 @@
 // The algebra of pairs: admission, whole and meet go side by side.
+ghost use Rattle.std.specs.Prelude.{◌≡◌, min, length};
 ghost use Rattle.guards.specs.Pair.{pair_model};
 ghost use Rattle.guards.specs.PairLaws.{pair_laws};
 
 use super::{Both, Pair};
-use crate::algebra::{Algebra, Parts};
+use crate::algebra::Algebra;
+
+// How many parts `a` without `b` has, or `most` where there are more. One by one, since a number past the last part is the dearest
+// to ask for where pairs stand within pairs.
+fn count_parts<A: Algebra>(alg: &A, a: A::Guard, b: A::Guard, most: usize) -> usize
+    ensures { result ≡ min (length ((A.model alg.now).parts a b)) most }
+{
+    for number in 0..most {
+        if alg.rest(a, b, number).is_none() {
+            return number;
+        }
+    }
+    most
+}
 
 impl<L: Algebra, R: Algebra> Algebra for Pair<L, R> {
     type Entry = Both<L::Entry, R::Entry>;
@@ -39,7 +53,9 @@ impl<L: Algebra, R: Algebra> Algebra for Pair<L, R> {
     }
 
     // Each part of the first side beside the second side of `a`, then the meet of the first sides beside each part of the second.
-    // The part is asked for by its number in its run, so that what stands before it costs no more than a count.
+    // The part is asked for by its number in its run, so that what stands before it costs no more than a count. Inlined, since what
+    // is read off both guards stays the same from part to part.
+    #[inline(always)]
     fn rest(&self, a: Self::Guard, b: Self::Guard, part: usize) -> Option<Self::Guard> {
         self.sample(a)?;
         if let Some(first) = self.first.rest(a.first, b.first, part) {
@@ -50,7 +66,7 @@ impl<L: Algebra, R: Algebra> Algebra for Pair<L, R> {
         }
         let met = self.first.meet(a.first, b.first);
         self.first.sample(met)?;
-        let firsts = Parts::new(&self.first, a.first, b.first).take(part).count();
+        let firsts = count_parts(&self.first, a.first, b.first, part);
         let second = self.second.rest(a.second, b.second, part - firsts)?;
         Some(Both { first: met, second })
     }
